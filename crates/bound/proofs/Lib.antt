@@ -1,0 +1,7 @@
+pub mod Lines
+pub mod OneFormula
+pub mod TopRow
+pub mod Gather
+pub mod Summing
+pub mod Climb
+pub mod Unique

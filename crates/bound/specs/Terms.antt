@@ -1,0 +1,71 @@
+-- What another task brings to the sum of task k, apart from the length: one formula for all four lines of
+-- document 01's table of sums.
+--
+--   document 01                               here
+--   min(W_i, .., q), what is summed           shareIn: min(W_i, cap, q)
+--   a candidate for the m largest             candidateIn: max(0, min(W_i, block, q) - min(W_i, cap, q))
+--   no cap but q                              cap 1,000,000, which q never exceeds
+--   a task that is not summed, no candidate   cap 0, block 0
+--
+-- Assumes nothing.
+use Prim.Native.Nat.{ℕ, zero, suc, _+_, _*_, _-_, _/_, _%_, _≤_, min}
+use mathlib.Core.Bool.{Bool, true, false}
+use mathlib.Core.List.{List}
+use lib.ListN.{getD}
+use lib.Dec.{ltb}
+use Rattle.model.specs.Bound.{Policy, EDF, FP, workIn}
+use Rattle.table.specs.declared.Task.{Task}
+use Rattle.bound.specs.declared.Term.{Term}
+
+-- the cap besides q, by policy, k's flag, i's flag, and whether i is higher than k; e = E(k,i)
+unfoldable pub capFor : Policy → ℕ → ℕ → Bool → ℕ → ℕ
+-- k preemptive
+capFor EDF (suc _) (suc _) h e = e
+capFor EDF (suc _) zero h e = 1000000
+capFor FP (suc _) fi true e = 1000000
+capFor FP (suc _) zero false e = 1000000
+capFor FP (suc _) (suc _) false e = 0
+-- k non-preemptive
+capFor EDF zero fi h e = e
+capFor FP zero fi true e = 1000000
+capFor FP zero fi false e = 0
+
+-- C_i - 1 for a candidate, 0 for what is none; late: D_i > D_k; c = C_i
+unfoldable pub blockFor : Policy → ℕ → ℕ → Bool → Bool → ℕ → ℕ
+blockFor p (suc _) fi h late c = 0
+blockFor p zero (suc _) h late c = 0
+blockFor EDF zero zero h true c = c - 1
+blockFor EDF zero zero h false c = 0
+blockFor FP zero zero true late c = 0
+blockFor FP zero zero false late c = c - 1
+
+-- the term of a task with flag fi, for a task with flag fk and deadline d
+unfoldable pub termFor : Policy → ℕ → ℕ → ℕ → Task → Bool → Term
+termFor p fk d fi t h = record {
+  period = t .period;
+  cost = t .cost;
+  reach = t .deadline - t .cost;
+  cap = capFor p fk fi h (d / t .period * t .cost + min (t .cost) (d % t .period));
+  block = blockFor p fk fi h (ltb d (t .deadline)) (t .cost);
+}
+
+-- what a term adds at length l, with q
+unfoldable pub shareIn : Term → ℕ → ℕ → ℕ
+shareIn t l q = min (min (workIn (t .period) (t .cost) (l + t .reach)) (t .cap)) q
+
+-- and what it puts up as a candidate
+unfoldable pub candidateIn : Term → ℕ → ℕ → ℕ
+candidateIn t l q = min (min (workIn (t .period) (t .cost) (l + t .reach)) (t .block)) q - shareIn t l q
+
+-- what stands past the last term
+abbrev pub noTerm : Term
+noTerm = record { period = 0; cost = 0; reach = 0; cap = 0; block = 0 }
+
+abbrev pub termAt : List Term → ℕ → Term
+termAt ts i = getD ts i noTerm
+
+-- 1 ≤ T, C ≤ T, and D - C at most 1,000,000: what keeps the sums small
+pub record SoundTerm (t : Term) : Type 0 where
+  pub some : 1 ≤ t .period
+  pub cost : t .cost ≤ t .period
+  pub reach : t .reach ≤ 1000000

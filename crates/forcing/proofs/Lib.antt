@@ -1,0 +1,4 @@
+pub mod Counting
+pub mod Ends
+pub mod Lowest
+pub mod Unique

@@ -1,0 +1,17 @@
+pub mod SumLaws
+pub mod TopLaws
+pub mod LeastLaws
+pub mod TermLaws
+pub mod BoundLaws
+pub mod LengthLaws
+pub mod ValidationLaws
+pub mod SeenLaws
+pub mod PlaceLaws
+pub mod ReorderLaws
+pub mod EasierLaws
+pub mod DifferenceLaws
+pub mod ForcingLaws
+pub mod PassLaws
+pub mod DemandLaws
+pub mod OrderLaws
+pub mod CoreLaws

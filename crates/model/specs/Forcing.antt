@@ -1,0 +1,70 @@
+-- Document 01, "Testing and forcing"; document 004, Algorithm 2, ended where it would turn to its step 14.
+--
+--   document 01, Algorithm 2                          here
+--   the test of the whole table (step 2)              test s fs, the bound of each task, 0 for none
+--   a preemptive task without a bound (7 and 8)       lacks
+--   its flag becomes 0 (6 to 12)                      made s fs bs
+--   no flag is changed any more (13)                  lacking s fs bs ≡ 0
+--   forcing: final flags, last bounds, passes         force s fs
+--   the lowest-numbered task without a bound          lowest s bs, counted from 1; 0 where the table passes
+--
+-- Assumes nothing.
+use Prim.Native.Nat.{ℕ, zero, suc, _-_}
+use mathlib.Core.List.{List, [], _∷_}
+use lib.ListN.{getD}
+use lib.Dec.{eqb}
+use Rattle.model.specs.Sums.{sumTo, least}
+use Rattle.model.specs.Bound.{System, bound}
+
+-- the number at a place of a list, 0 past its end
+abbrev pub at : List ℕ → ℕ → ℕ
+at xs i = getD xs i 0
+
+-- f i, f (i + 1), .. : n of them
+unfoldable pub tab : (ℕ → ℕ) → ℕ → ℕ → List ℕ
+tab f i zero = []
+tab f i (suc n) = f i ∷ tab f (suc i) n
+
+-- one test of the whole table
+unfoldable pub test : System → List ℕ → List ℕ
+test s fs = tab (bound s (at fs)) 0 (s .count)
+
+unfoldable pub lowest : System → List ℕ → ℕ
+lowest s bs = least (λ j. eqb (at bs (j - 1)) 0) (s .count) 1
+
+-- by flag and bound: 1 for a preemptive task without a bound
+unfoldable pub lacks : ℕ → ℕ → ℕ
+lacks zero b = 0
+lacks (suc _) zero = 1
+lacks (suc _) (suc _) = 0
+
+-- the number of preemptive tasks without a bound
+unfoldable pub lacking : System → List ℕ → List ℕ → ℕ
+lacking s fs bs = sumTo (λ k. lacks (at fs k) (at bs k)) (s .count)
+
+-- the flags, with every preemptive task without a bound made non-preemptive
+unfoldable pub made : System → List ℕ → List ℕ → List ℕ
+made s fs bs = tab (λ k. at fs k - lacks (at fs k) (at bs k)) 0 (s .count)
+
+-- where forcing ends
+pub record Final : Type 0 where
+  pub flags : List ℕ
+  pub bounds : List ℕ
+  pub passes : ℕ
+
+abbrev pub choose : ℕ → Final → Final → Final
+choose zero a b = a
+choose (suc _) a b = b
+
+-- From the flags fs, after p passes. A pass that changes no flag is the last one: every task has a bound
+-- (step 2), or all tasks are non-preemptive (step 3), or step 14 would be next. Each other pass leaves fewer
+-- preemptive tasks, so that f passes are enough where f is at least their number.
+unfoldable pub run : System → ℕ → List ℕ → ℕ → Final
+run s zero fs p = record { flags = fs; bounds = test s fs; passes = suc p }
+run s (suc f) fs p =
+    let bs = test s fs in
+    let again = run s f (made s fs bs) (suc p) in
+    choose (lacking s fs bs) (record { flags = fs; bounds = bs; passes = suc p }) again
+
+unfoldable pub force : System → List ℕ → Final
+force s fs = run s (s .count) fs 0

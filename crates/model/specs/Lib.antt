@@ -1,0 +1,5 @@
+pub mod Sums
+pub mod Bound
+pub mod Forcing
+pub mod Demands
+pub mod Seen

@@ -1,0 +1,67 @@
+-- From the code's table to the model's system.
+--
+--   document 01          here
+--   task k (from 1)      taskAt (t .tasks) (k - 1)
+--   policy 0, 1          EDF, FP
+--   T, C, D of a task    its fields period, cost, deadline
+--   flag 1, 0            preemptive, non-preemptive
+--   a legal table        LegalTable
+--   an answer's 32       row xs: the numbers of xs, and zeros past its end
+--
+-- Assumes nothing.
+use Prim.Native.Nat.{ℕ, zero, suc, _≤_, _<_}
+use mathlib.Core.List.{List}
+use lib.ListN.{getD}
+use lib.Dec.{ltb}
+use Rattle.model.specs.Bound.{Policy, EDF, FP, System}
+use Rattle.model.specs.Forcing.{at, tab}
+use Rattle.table.specs.declared.Task.{Task}
+use Rattle.table.specs.declared.Table.{Table}
+
+-- what stands past the last task
+abbrev pub noTask : Task
+noTask = record { flag = 0; period = 0; cost = 0; deadline = 0 }
+
+abbrev pub taskAt : List Task → ℕ → Task
+taskAt ts i = getD ts i noTask
+
+abbrev pub policyOf : ℕ → Policy
+policyOf zero = EDF
+policyOf (suc _) = FP
+
+-- edition 1: no slack, and an earlier place is a higher priority
+abbrev pub systemOf : Table → System
+systemOf t = record {
+  policy = policyOf (t .policy);
+  cores = t .cores;
+  count = t .n;
+  T = λ i. taskAt (t .tasks) i .period;
+  C = λ i. taskAt (t .tasks) i .cost;
+  D = λ i. taskAt (t .tasks) i .deadline;
+  S = λ i. 0;
+  higher = λ k i. ltb i k;
+}
+
+-- the flags of the table as sent
+unfoldable pub flagsOf : Table → List ℕ
+flagsOf t = tab (λ i. taskAt (t .tasks) i .flag) 0 (t .n)
+
+-- 1 ≤ C ≤ D ≤ T ≤ 1,000,000, and the flag 0 or 1
+pub record LegalTask (t : Task) : Type 0 where
+  pub flag : t .flag ≤ 1
+  pub period : t .period ≤ 1000000
+  pub deadline : t .deadline ≤ t .period
+  pub cost : t .cost ≤ t .deadline
+  pub some : 1 ≤ t .cost
+
+pub record LegalTable (t : Table) : Type 0 where
+  pub some-core : 1 ≤ t .cores
+  pub cores : t .cores ≤ 16
+  pub policy : t .policy ≤ 1
+  pub some-task : 1 ≤ t .n
+  pub count : t .n ≤ 32
+  pub each : (i : ℕ) → i < t .n → LegalTask (taskAt (t .tasks) i)
+
+-- the 32 places of an answer: the numbers of xs, and zeros past its end
+unfoldable pub row : List ℕ → List ℕ
+row xs = tab (at xs) 0 32
