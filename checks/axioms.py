@@ -11,16 +11,23 @@ import sys
 ROOT = pathlib.Path(__file__).resolve().parent.parent
 
 
+def last_line(name):
+    """The last line of the crate's check; a check of an unchanged crate leaves it in the older of the two logs."""
+    for kind in ("out", "say"):
+        log = ROOT / "target" / "log" / f"{name}.{kind}"
+        said = re.findall(r"^logic=\S.*$", log.read_text(encoding="utf-8") if log.is_file() else "", re.M)
+        if said:
+            return said[-1]
+    return "no check"
+
+
 def main():
     wrong = 0
     for line in (ROOT / "crates.txt").read_text(encoding="utf-8").splitlines():
         name = line.split("#")[0].partition(":")[0].strip()
         if not name:
             continue
-        log = ROOT / "target" / "log" / f"{name}.out"
-        text = log.read_text(encoding="utf-8") if log.is_file() else ""
-        said = re.findall(r"^logic=\S.*$", text, re.M)
-        last = said[-1] if said else "no check"
+        last = last_line(name)
         axioms = re.findall(r"\b(?:axioms|foreign)=\S+", last)
         program = (ROOT / "crates" / name / "src" / "main.rt").is_file()
         proved = last.startswith("logic=proved")

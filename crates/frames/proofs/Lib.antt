@@ -1,0 +1,6 @@
+pub mod TableLaws
+pub mod DigitLaws
+pub mod FrameLaws
+pub mod ByteLaws
+pub mod TextLaws
+pub mod Unique

@@ -1,0 +1,53 @@
+-- Document 01, "The plan lines": digits, and the bytes that they write.
+--
+--   document 01                                          here
+--   upper-case digits 0-9, A-F                           digitOf, and digitText the other way
+--   the digit value of a byte, 255 for what is no digit  digitOf b
+--   two digits to a byte                                 byteAt s i: byte i of the line that s starts with
+--   4 bytes, highest first                               wordAt s i
+--   all of the due digits are digits                     Digits s n, and its test digits s n
+--
+-- The digit rule is in `digitOf` and `digitText` alone. Assumes nothing.
+use Prim.Native.Nat.{ℕ, zero, suc, _+_, _*_, _-_, _<_}
+use mathlib.Core.Bool.{Bool, true, false}
+use mathlib.Core.List.{List}
+use lib.Dec.{ltb, leb}
+use lib.ListN.{getD}
+use Rattle.model.specs.Sums.{pick}
+
+-- both tests
+abbrev pub both : Bool → Bool → Bool
+both true b = b
+both false b = false
+
+-- b is one of lo .. hi
+abbrev pub among : ℕ → ℕ → ℕ → Bool
+among lo hi b = both (leb lo b) (leb b hi)
+
+-- 0 to 9 are the bytes 48 to 57, A to F the bytes 65 to 70; all else has 255
+unfoldable pub digitOf : ℕ → ℕ
+digitOf b = pick (among 48 57 b) (b - 48) (pick (among 65 70 b) (b - 55) 255)
+
+-- the byte of a digit
+unfoldable pub digitText : ℕ → ℕ
+digitText d = pick (ltb d 10) (48 + d) (55 + d)
+
+-- the digit at a place of a text
+abbrev pub digitAt : List ℕ → ℕ → ℕ
+digitAt s i = digitOf (getD s i 0)
+
+-- byte i of a line, of its digits 2 i and 2 i + 1
+unfoldable pub byteAt : List ℕ → ℕ → ℕ
+byteAt s i = 16 * digitAt s (2 * i) + digitAt s (2 * i + 1)
+
+-- the bytes i to i + 3 as one number, highest first
+unfoldable pub wordAt : List ℕ → ℕ → ℕ
+wordAt s i = 16777216 * byteAt s i + 65536 * byteAt s (i + 1) + 256 * byteAt s (i + 2) + byteAt s (i + 3)
+
+-- the first n bytes of a text are digits
+abbrev pub Digits : List ℕ → ℕ → Type 0
+Digits s n = (i : ℕ) → i < n → digitAt s i < 16
+
+unfoldable pub digits : List ℕ → ℕ → Bool
+digits s zero = true
+digits s (suc n) = both (digits s n) (ltb (digitAt s n) 16)

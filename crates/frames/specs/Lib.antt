@@ -1,0 +1,4 @@
+pub mod Digits
+pub mod Frames
+pub mod Faults
+pub mod Text

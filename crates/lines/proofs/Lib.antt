@@ -1,0 +1,9 @@
+pub mod LineLaws
+pub mod ReadLaws
+pub mod FieldLaws
+pub mod RefusalLaws
+pub mod FieldTextLaws
+pub mod ExactLaws
+pub mod Theorems
+pub mod Samples
+pub mod Unique

@@ -1,0 +1,27 @@
+-- `lines::task_fields` meets its contract: a byte and three words.
+-- Assumes nothing.
+use native.Mathlib.Omega.{arith}
+use Rattle.lines.specs.Fields.{taskOf}
+use borrow.Author.Needs.{needs}
+use Rattle.lines.proofs.task_fields.Statement.{statement}
+use Rattle.lines.proofs.task_fields.Tie as tie
+
+byte-requires : tie.Need-byte-requires
+byte-requires c κs = search needs
+
+word-requires : tie.Need-word-requires
+word-requires c κs = (omega arith, λ i l. c .before .before .pre .1 i (omega arith))
+
+word-requires-2 : tie.Need-word-requires-2
+word-requires-2 c κs = (omega arith, λ i l. c .before .before .before .pre .1 i (omega arith))
+
+word-requires-3 : tie.Need-word-requires-3
+word-requires-3 c κs = (omega arith, λ i l. c .before .before .before .before .pre .1 i (omega arith))
+
+returns : tie.Need-returns
+unfolding taskOf
+returns c = cc
+
+pub task-fields-spec : {M : Type 1} → statement M
+task-fields-spec =
+    tie.close (tie.spec byte-requires word-requires word-requires-2 word-requires-3 returns)

@@ -1,0 +1,25 @@
+//! An independent second program for the planner of document 01.
+//!
+//! Nothing here is shared with the planner: every rule was written afresh from the document, as literally
+//! as plain Rust allows. The planner is compared with it; it is meant to be read beside the document.
+
+// The rules are written as the document writes them, even where a shorter form exists.
+#![allow(clippy::int_plus_one, clippy::manual_is_multiple_of)]
+
+pub mod batch;
+pub mod bound;
+pub mod compare;
+pub mod corpus;
+pub mod forcing;
+pub mod hand;
+pub mod hunt;
+pub mod listing;
+pub mod plan;
+pub mod plan_cases;
+pub mod random;
+pub mod reading_cases;
+pub mod tables;
+pub mod textbook;
+pub mod texts;
+pub mod wrong;
+pub mod wrong_reading;

@@ -1,0 +1,46 @@
+//! The commands of the second program; each has a small file of its own.
+
+mod commands {
+    pub mod hunt;
+    pub mod listing;
+    pub mod listings;
+    pub mod plan_cases;
+    pub mod plans;
+    pub mod reading_cases;
+}
+
+use std::path::Path;
+use std::process::ExitCode;
+
+const USAGE: &str = "usage: second COMMAND
+  listing              a plan on standard input, its listing on standard output
+  reading-cases DIR    writes DIR/stdin and DIR/stdout, the reading cases
+  plan-cases DIR       writes DIR/stdin and DIR/stdout, the plan cases
+  plans ROOT           writes the plans of ROOT/examples and ROOT/corpus
+  examples DIR         writes NAME.listing beside each NAME.plan of DIR
+  hunt                 says which plans of the corpus give which wrong planner away
+";
+
+fn main() -> ExitCode {
+    let words: Vec<String> = std::env::args().skip(1).collect();
+    let words: Vec<&str> = words.iter().map(|word| word.as_str()).collect();
+    let done = match words[..] {
+        ["listing"] => commands::listing::run(),
+        ["reading-cases", dir] => commands::reading_cases::run(Path::new(dir)),
+        ["plan-cases", dir] => commands::plan_cases::run(Path::new(dir)),
+        ["plans", root] => commands::plans::run(Path::new(root)),
+        ["examples", dir] => commands::listings::run(Path::new(dir)),
+        ["hunt"] => commands::hunt::run(),
+        _ => {
+            eprint!("{USAGE}");
+            return ExitCode::from(2);
+        }
+    };
+    match done {
+        Ok(()) => ExitCode::SUCCESS,
+        Err(error) => {
+            eprintln!("{error}");
+            ExitCode::FAILURE
+        }
+    }
+}
