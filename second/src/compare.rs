@@ -236,24 +236,23 @@ pub fn batches(planner: &Planner) -> Compared {
     Ok(2 * all.len() as u64)
 }
 
-/// A part of everything, in seconds: for every change.
-pub fn short(planner: &Planner, seed: u64) -> Compared {
-    let mut calls = small(planner, 7)?;
-    calls += edges(planner, seed, 300)?;
-    calls += drawn(planner, seed, 5_000)?;
-    calls += texts(planner, seed, 5_000)?;
-    calls += lists(planner, seed, 5_000)?;
+/// Each `step`-th small table, so many tables at the edge, and so many of each other kind.
+fn amount(planner: &Planner, seed: u64, step: usize, edge: usize, others: usize) -> Compared {
+    let mut calls = small(planner, step)?;
+    calls += edges(planner, seed, edge)?;
+    calls += drawn(planner, seed, others)?;
+    calls += texts(planner, seed, others as u64)?;
+    calls += lists(planner, seed, others as u64)?;
     calls += batches(planner)?;
     Ok(calls)
 }
 
+/// A part of everything, in seconds: for every change.
+pub fn short(planner: &Planner, seed: u64) -> Compared {
+    amount(planner, seed, 7, 300, 5_000)
+}
+
 /// Everything, in a minute or so.
 pub fn everything(planner: &Planner, seed: u64) -> Compared {
-    let mut calls = small(planner, 1)?;
-    calls += edges(planner, seed, 2_000)?;
-    calls += drawn(planner, seed, 50_000)?;
-    calls += texts(planner, seed, 50_000)?;
-    calls += lists(planner, seed, 50_000)?;
-    calls += batches(planner)?;
-    Ok(calls)
+    amount(planner, seed, 1, 2_000, 50_000)
 }

@@ -1,0 +1,11 @@
+pub mod RowLaws
+pub mod RecordLaws
+pub mod DoneLaws
+pub mod EntryLaws
+pub mod CountLaws
+pub mod WrittenLaws
+pub mod LowestLaws
+pub mod WayLaws
+pub mod Theorems
+pub mod ListLaws
+pub mod Unique

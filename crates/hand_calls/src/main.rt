@@ -1,0 +1,161 @@
+// Every sum done by hand of document 01, run through the planner's answers by value: the lettered cases,
+// the numbers at the borders, and the digits. The file `stdout` is written from document 01's text.
+ghost use Prim.Native.Nat.{_<_};
+use answer::Answer;
+use answer::Done;
+use answer::Job;
+use table::Task;
+
+fn task(period: u32, cost: u32, deadline: u32, flag: u32) -> Task {
+    Task {
+        flag: flag,
+        period: period,
+        cost: cost,
+        deadline: deadline,
+    }
+}
+
+// The first three tasks of a list.
+fn three(a: Task, b: Task, c: Task) -> [Task; 32] {
+    let none = task(0, 0, 0, 0);
+    let mut tasks = [none; 32];
+    tasks[0] = a;
+    tasks[1] = b;
+    tasks[2] = c;
+    tasks
+}
+
+// A word and a number after it.
+fn put(word: &[u8], x: u32) {
+    io::write_all(1, word);
+    io::print_decimal(1, x as u64);
+}
+
+fn put_answer(answer: Answer) {
+    match answer {
+        Answer::Yes => {
+            io::write_all(1, b" yes");
+        }
+        Answer::No => {
+            io::write_all(1, b" no");
+        }
+        Answer::Accepted { forced, passes } => {
+            put(b" forced ", forced);
+            put(b" passes ", passes);
+        }
+        Answer::Refused {
+            number,
+            place,
+            passes,
+        } => {
+            put(b" refused ", number);
+            put(b" place ", place);
+            put(b" passes ", passes);
+        }
+    }
+}
+
+// A task without a bound shows as none.
+fn put_bound(bound: u32) {
+    if bound == 0 {
+        io::write_all(1, b" none");
+    } else {
+        put(b" ", bound);
+    }
+}
+
+// The bound in record k (from 0), where it is written.
+fn put_record(d: Done, k: usize)
+    requires { ⌜ k < 3 ⌝ }
+{
+    let n = d.count;
+    if k < n {
+        let r = d.recs[k];
+        put_bound(r.bound);
+    }
+}
+
+// A line for one case: its name, the answer, the bounds.
+fn show(name: &[u8], d: Done) {
+    io::write_all(1, name);
+    let answer = d.answer;
+    put_answer(answer);
+    put_record(d, 0);
+    put_record(d, 1);
+    put_record(d, 2);
+    io::write_all(1, b"\n");
+}
+
+// The lettered cases of one core and two tasks: a to f.
+fn pairs() {
+    let none = task(0, 0, 0, 0);
+    let low = task(24, 9, 18, 1);
+    let a = three(task(12, 4, 12, 1), low, none);
+    let c = three(task(12, 4, 11, 1), low, none);
+    let d = three(task(12, 4, 11, 1), task(24, 9, 18, 0), none);
+    show(b"a", answer::list_core(1, 1, 2, a, Job::Test, 32));
+    show(b"b", answer::list_core(1, 1, 2, a, Job::Force, 32));
+    show(b"c", answer::list_core(1, 1, 2, c, Job::Test, 32));
+    show(b"d", answer::list_core(1, 1, 2, d, Job::Force, 32));
+    show(b"e", answer::list_core(1, 0, 2, a, Job::Test, 32));
+    show(b"f", answer::list_core(1, 0, 2, a, Job::Force, 32));
+}
+
+// The cases of three tasks, of one task alone, and of the empty text: g to l.
+fn others() {
+    let none = task(0, 0, 0, 0);
+    let high = task(10, 4, 10, 1);
+    let g = three(high, high, task(20, 8, 20, 1));
+    let h = three(high, high, task(20, 8, 19, 1));
+    show(b"g", answer::list_core(2, 1, 3, g, Job::Test, 32));
+    show(b"h", answer::list_core(2, 1, 3, h, Job::Test, 32));
+    show(b"i", answer::list_core(2, 1, 3, h, Job::Force, 32));
+    show(b"j", answer::list_core(3, 1, 3, g, Job::Test, 32));
+    let preemptive = three(high, none, none);
+    let fixed = three(task(10, 4, 10, 0), none, none);
+    show(
+        b"k P",
+        answer::list_core(1, 1, 1, preemptive, Job::Test, 32),
+    );
+    show(b"k N", answer::list_core(1, 1, 1, fixed, Job::Test, 32));
+    show(b"l", answer::plan_core(b"", Job::Force, 32));
+}
+
+// The numbers at the borders.
+fn borders() {
+    let none = task(0, 0, 0, 0);
+    let longest = task(1000000, 1, 1000000, 1);
+    let many = [longest; 32];
+    show(
+        b"n = 32, T = 1000000",
+        answer::list_core(16, 0, 32, many, Job::Test, 32),
+    );
+    show(b"n = 33", answer::list_core(16, 0, 33, many, Job::Test, 40));
+    let beyond = three(task(1000001, 1, 1000000, 1), none, none);
+    show(
+        b"T = 1000001",
+        answer::list_core(1, 0, 1, beyond, Job::Test, 32),
+    );
+    let idle = three(task(10, 0, 10, 1), none, none);
+    show(b"C = 0", answer::list_core(1, 0, 1, idle, Job::Test, 32));
+    let late = three(task(10, 4, 11, 1), none, none);
+    show(
+        b"D = T + 1",
+        answer::list_core(1, 0, 1, late, Job::Test, 32),
+    );
+}
+
+// One task, T = 10, C = 4, D = 10, preemptive, in upper and in lower case.
+fn digits() {
+    let upper = b"01010001FD\n02010000000A000000040000000AE5\n";
+    show(b"the digit A", answer::plan_core(upper, Job::Test, 32));
+    let lower = b"01010001FD\n02010000000a000000040000000AE5\n";
+    show(b"the digit a", answer::plan_core(lower, Job::Test, 32));
+}
+
+fn main() {
+    pairs();
+    others();
+    borders();
+    digits();
+}
