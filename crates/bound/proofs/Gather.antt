@@ -7,10 +7,7 @@ use native.Mathlib.Omega.{arith}
 use native.Mathlib.Nat.{eq-or-lt-of-le}
 use native.Mathlib.Numerals.{add-one}
 use mathlib.Core.Path.{_≡_, refl, sym, ap, ap₂, _∙_, subst}
-use mathlib.Core.List.{List}
 use mathlib.Core.Logic.{_⊎_, ⊎-elim}
-use lib.ListN.{length, set, length-set}
-use lib.Seq.{getD-set-same, getD-set-other}
 use Rattle.model.specs.Sums.{sumTo, topTo}
 use Rattle.model.specs.Bound.{byFlag, from, cap, shareOf, blockOf}
 use Rattle.model.proofs.SumLaws.{sum-same, top-same, top-none}
@@ -18,35 +15,38 @@ use Rattle.model.proofs.BoundLaws.{from-small}
 use Rattle.table.specs.declared.Table.{Table}
 use Rattle.table.specs.Table.{taskAt, systemOf, LegalTask, LegalTable}
 use Rattle.bound.specs.declared.Term.{Term}
-use Rattle.bound.specs.Terms.{termFor, shareIn, candidateIn, noTerm, termAt, SoundTerm}
-use Rattle.bound.specs.Sums.{sharesAt, candidatesAt, sumAt, SearchOf}
+use Rattle.bound.specs.declared.Search.{Search}
+use Rattle.bound.specs.Terms.{termFor, shareIn, candidateIn, SoundTerm}
+use Rattle.bound.specs.Sums.{sharesAt, candidatesAt, sumOf, sumAt, SearchOf}
 use Rattle.bound.proofs.OneFormula.{termOf, cap-first, own-share, own-block, term-share, term-block}
+use Rattle.bound.proofs.TermRows.{Rows, rowsAt, Sized, more, sized-more, here, others}
 use Rattle.bound.proofs.TopRow.{top-zero}
 
 -- one term more
-module _ (ts : List Term) (used : ℕ) (x : Term) (room : used < length ts) where
-  here : termAt (set ts used x) used ≡ x
-  here = getD-set-same ts used x noTerm room
+module _ (ts : Rows) (used : ℕ) (x : Term) (size : Sized ts) (room : used < 32) where
+  new : rowsAt (more ts used x) used ≡ x
+  new = here ts used x size room
 
-  others : (j : ℕ) → j < used → termAt (set ts used x) j ≡ termAt ts j
-  others j lt = getD-set-other ts used j x noTerm (omega arith)
+  old : (j : ℕ) → j < used → rowsAt (more ts used x) j ≡ rowsAt ts j
+  old = others ts used x size room
 
-  shares-more : (l q : ℕ)
-      → sumTo (sharesAt (set ts used x) l q) (suc used) ≡ sumTo (sharesAt ts l q) used + shareIn x l q
+  shares-more : (l q : ℕ) → sumTo (sharesAt (rowsAt (more ts used x)) l q) (suc used)
+      ≡ sumTo (sharesAt (rowsAt ts) l q) used + shareIn x l q
   unfolding sumTo
   shares-more l q =
-      ap₂ (λ a b. a + b) (sum-same _ _ used (λ j lt. ap (λ y. shareIn y l q) (others j lt)))
-      (ap (λ y. shareIn y l q) here)
+      ap₂ (λ a b. a + b) (sum-same _ _ used (λ j lt. ap (λ y. shareIn y l q) (old j lt)))
+      (ap (λ y. shareIn y l q) new)
 
-  candidates-more : (m l q : ℕ) → topTo (candidatesAt (set ts used x) l q) (suc m) (suc used)
-      ≡ max (candidateIn x l q + topTo (candidatesAt ts l q) m used)
-      (topTo (candidatesAt ts l q) (suc m) used)
+  candidates-more : (m l q : ℕ) → topTo (candidatesAt (rowsAt (more ts used x)) l q) (suc m) (suc used)
+      ≡ max (candidateIn x l q + topTo (candidatesAt (rowsAt ts) l q) m used)
+      (topTo (candidatesAt (rowsAt ts) l q) (suc m) used)
   unfolding topTo
   candidates-more m l q =
-      ap₂ max (ap₂ (λ a b. a + b) (ap (λ y. candidateIn y l q) here) (same m)) (same (suc m))
+      ap₂ max (ap₂ (λ a b. a + b) (ap (λ y. candidateIn y l q) new) (same m)) (same (suc m))
     where
-      same : (m : ℕ) → topTo (candidatesAt (set ts used x) l q) m used ≡ topTo (candidatesAt ts l q) m used
-      same m = top-same _ _ m used (λ j lt. ap (λ y. candidateIn y l q) (others j lt))
+      same : (m : ℕ) → topTo (candidatesAt (rowsAt (more ts used x)) l q) m used
+          ≡ topTo (candidatesAt (rowsAt ts) l q) m used
+      same m = top-same _ _ m used (λ j lt. ap (λ y. candidateIn y l q) (old j lt))
 
 -- a term without a cap and a block adds nothing
 idle-share : (x : Term) (l q : ℕ) → x .cap ≡ 0 → shareIn x l q ≡ 0
@@ -62,17 +62,18 @@ abbrev qOf : Table → (ℕ → ℕ) → ℕ → ℕ → ℕ
 qOf t fl k l = cap (systemOf t) fl k l
 
 -- what the loop knows at place i
-pub record Gathered (t : Table) (fl : ℕ → ℕ) (k : ℕ) (ts : List Term) (used i : ℕ) : Type 0 where
-  pub size : length ts ≡ 32
+pub record Gathered (t : Table) (fl : ℕ → ℕ) (k : ℕ) (ts : Rows) (used i : ℕ) : Type 0 where
+  pub size : Sized ts
   pub few : used ≤ i
   pub low : i ≤ t .n
-  pub each : (j : ℕ) → j < used → SoundTerm (termAt ts j)
+  pub each : (j : ℕ) → j < used → SoundTerm (rowsAt ts j)
   pub sums : (l : ℕ) → cap (systemOf t) fl k l ≤ 1000000
-      → sumTo (sharesAt ts l (cap (systemOf t) fl k l)) used ≡ sumTo (shareOf (systemOf t) fl k l) i
+      → sumTo (sharesAt (rowsAt ts) l (cap (systemOf t) fl k l)) used ≡ sumTo (shareOf (systemOf t) fl k l) i
   pub tops : (m l : ℕ) → cap (systemOf t) fl k l ≤ 1000000
-      → topTo (candidatesAt ts l (cap (systemOf t) fl k l)) m used ≡ topTo (blockOf (systemOf t) fl k l) m i
+      → topTo (candidatesAt (rowsAt ts) l (cap (systemOf t) fl k l)) m used
+      ≡ topTo (blockOf (systemOf t) fl k l) m i
 
-pub gather-start : (t : Table) (fl : ℕ → ℕ) (k : ℕ) (ts : List Term) → length ts ≡ 32 → Gathered t fl k ts 0 0
+pub gather-start : (t : Table) (fl : ℕ → ℕ) (k : ℕ) (ts : Rows) → Sized ts → Gathered t fl k ts 0 0
 unfolding sumTo
 gather-start t fl k ts size = record {
   size = size;
@@ -83,7 +84,7 @@ gather-start t fl k ts size = record {
   tops = λ m l q. top-none _ m ∙ sym (top-none _ m);
 }
 
-module _ {t : Table} (legal : LegalTable t) {fl : ℕ → ℕ} {k : ℕ} {ts : List Term} {used i : ℕ}
+module _ {t : Table} (legal : LegalTable t) {fl : ℕ → ℕ} {k : ℕ} {ts : Rows} {used i : ℕ}
     (a : Gathered t fl k ts used i) (lt : i < t .n)
   where
     -- nothing is added
@@ -122,12 +123,13 @@ module _ {t : Table} (legal : LegalTable t) {fl : ℕ → ℕ} {k : ℕ} {ts : L
       sound ok = rw is (record {
         some = omega (arith, ok .some, ok .cost, ok .deadline);
         cost = omega (arith, ok .cost, ok .deadline);
+        short = omega (arith, ok .cost, ok .deadline, ok .period);
         reach = omega (arith, ok .deadline, ok .period);
       })
 
-      pub gather-more : Gathered t fl k (set ts used x) (used + 1) (i + 1)
+      pub gather-more : Gathered t fl k (more ts used x) (used + 1) (i + 1)
       gather-more = rw (add-one used, add-one i) (record {
-        size = length-set ts used x ∙ a .size;
+        size = sized-more ts used x (a .size) room;
         few = omega (arith, a .few);
         low = omega arith;
         each = each;
@@ -135,36 +137,51 @@ module _ {t : Table} (legal : LegalTable t) {fl : ℕ → ℕ} {k : ℕ} {ts : L
         tops = tops;
       })
         where
-          room : used < length ts
-          room = omega (arith, a .size, a .few, legal .count)
+          room : used < 32
+          room = omega (arith, a .few, legal .count)
 
-          last : (j : ℕ) → j ≡ used → termAt (set ts used x) j ≡ x
-          last j e = ap (termAt (set ts used x)) e ∙ here ts used x room
+          last : (j : ℕ) → j ≡ used → rowsAt (more ts used x) j ≡ x
+          last j e = ap (rowsAt (more ts used x)) e ∙ here ts used x (a .size) room
 
-          each : (j : ℕ) → j < suc used → SoundTerm (termAt (set ts used x) j)
+          each : (j : ℕ) → j < suc used → SoundTerm (rowsAt (more ts used x) j)
           each j l =
               ⊎-elim
               (λ (e : suc j ≡ suc used).
               subst SoundTerm (sym (last j (omega arith))) (sound (legal .each i lt)))
               (λ (m : suc j < suc used).
-              subst SoundTerm (sym (others ts used x room j (omega arith))) (a .each j (omega arith)))
+              let same = others ts used x (a .size) room j (omega arith) in
+              subst SoundTerm (sym same) (a .each j (omega arith)))
               (eq-or-lt-of-le l)
 
           sums : (l : ℕ) → qOf t fl k l ≤ 1000000
-              → sumTo (sharesAt (set ts used x) l (qOf t fl k l)) (suc used)
+              → sumTo (sharesAt (rowsAt (more ts used x)) l (qOf t fl k l)) (suc used)
               ≡ sumTo (shareOf (systemOf t) fl k l) (suc i)
           sums l q =
-              shares-more ts used x room l (qOf t fl k l)
+              shares-more ts used x (a .size) room l (qOf t fl k l)
               ∙ (unfold sumTo in ap₂ (λ u v. u + v) (a .sums l q) (share-is l q))
 
           tops : (m l : ℕ) → qOf t fl k l ≤ 1000000
-              → topTo (candidatesAt (set ts used x) l (qOf t fl k l)) m (suc used)
+              → topTo (candidatesAt (rowsAt (more ts used x)) l (qOf t fl k l)) m (suc used)
               ≡ topTo (blockOf (systemOf t) fl k l) m (suc i)
           tops zero l q = unfold topTo in refl
           tops (suc m) l q =
-              candidates-more ts used x room m l (qOf t fl k l)
+              candidates-more ts used x (a .size) room m l (qOf t fl k l)
               ∙ (unfold topTo in
               ap₂ max (ap₂ (λ u v. u + v) (block-is l) (a .tops m l q)) (a .tops (suc m) l q))
+
+-- the search of rows
+abbrev pub searchOf : ℕ → ℕ → ℕ → ℕ → Rows → Search
+searchOf cores first lengths used ts = record {
+  cores = cores;
+  first = first;
+  lengths = lengths;
+  used = used;
+  period = ts .period;
+  cost = ts .cost;
+  reach = ts .reach;
+  cap = ts .cap;
+  block = ts .block;
+}
 
 -- the first length is at least 1
 first-some : (f c : ℕ) → 1 ≤ c → 1 ≤ byFlag f 1 c
@@ -181,10 +198,9 @@ module _ {t : Table} (legal : LegalTable t) (fl : ℕ → ℕ) (k : ℕ) (own : 
   cap-small l low small = omega (arith, cap-first (systemOf t) fl k l low, from-some)
 
   -- the search, where every task is passed
-  pub gather-end : {ts : List Term} {used i : ℕ} (first lengths : ℕ) → Gathered t fl k ts used i → t .n ≤ i
+  pub gather-end : {ts : Rows} {used i : ℕ} (first lengths : ℕ) → Gathered t fl k ts used i → t .n ≤ i
       → first ≡ byFlag (fl k) 1 (systemOf t .C k) → lengths ≡ systemOf t .D k - systemOf t .C k + 1
-      → SearchOf (systemOf t) fl k
-      (record { cores = t .cores; first = first; lengths = lengths; used = used; terms = ts })
+      → SearchOf (systemOf t) fl k (searchOf (t .cores) first lengths used ts)
   gather-end {ts} {used} {i} first lengths a done ef el = record {
     sound = record {
       some-core = legal .some-core;
@@ -207,11 +223,11 @@ module _ {t : Table} (legal : LegalTable t) (fl : ℕ → ℕ) (k : ℕ) (own : 
       all = omega (arith, a .low)
 
       sums : (l : ℕ) → from (systemOf t) fl k ≤ l → l ≤ 1000000
-          → sumAt (record { cores = t .cores; first = first; lengths = lengths; used = used; terms = ts }) l
+          → sumAt (searchOf (t .cores) first lengths used ts) l
           ≡ sumTo (shareOf (systemOf t) fl k l) (t .n) + topTo (blockOf (systemOf t) fl k l) (t .cores) (t .n)
       sums l low small =
           let q : qOf t fl k l ≤ 1000000 = cap-small l low small in
-          unfold sumAt in
+          unfold sumOf in
           rw (starts, ← cap-first (systemOf t) fl k l low)
           (ap₂ (λ u v. u + v) (a .sums l q) (a .tops (t .cores) l q)
           ∙ ap (λ n. sumTo (shareOf (systemOf t) fl k l) n + topTo (blockOf (systemOf t) fl k l) (t .cores) n)

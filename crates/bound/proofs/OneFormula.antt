@@ -1,9 +1,9 @@
 -- One formula for the four lines of the table of sums: each share is min(W, cap, q) and each candidate is
 -- max(0, min(W, block, q) - min(W, cap, q)), with the cap and the block of `capFor` and `blockFor`. By cases.
 -- Assumes nothing.
-use Prim.Native.Nat.{ℕ, zero, suc, _+_, _-_, _≤_, min}
+use Prim.Native.Nat.{ℕ, zero, suc, _+_, _*_, _-_, _/_, _≤_, min}
 use native.Mathlib.Omega.{arith}
-use native.Mathlib.Nat.{sub-zero}
+use native.Mathlib.Nat.{sub-zero, div-mul-le-self, mul-le-mul-left}
 use mathlib.Core.Path.{_≡_, refl, ap, ap₂, _∙_}
 use mathlib.Core.Bool.{Bool, true, false}
 use lib.Dec.{ltb}
@@ -13,7 +13,7 @@ use Rattle.model.specs.Bound.{cap, shareOf, blockOf}
 use Rattle.table.specs.declared.Table.{Table}
 use Rattle.table.specs.Table.{taskAt, policyOf, systemOf}
 use Rattle.bound.specs.declared.Term.{Term}
-use Rattle.bound.specs.Terms.{capFor, blockFor, termFor, shareIn, candidateIn}
+use Rattle.bound.specs.Terms.{capFor, blockFor, termFor, shareIn, candidateIn, growthIn}
 
 pub share-one : (p : Policy) (fk fi : ℕ) (h : Bool) (w e q : ℕ) → q ≤ 1000000
     → min (min w (capFor p fk fi h e)) q ≡ share p fk fi h w e q
@@ -45,6 +45,13 @@ block-one EDF zero zero h false w e c q = none w q (min (min w e) q)
 block-one FP zero zero true late w e c q = none w q (min (min w 1000000) q)
 block-one FP zero zero false late w e c q = whole w (c - 1) q
 
+-- the jobs begun in a window of at most 2,000,000, all of them whole
+pub begun-small : (t c x : ℕ) → c ≤ t → c ≤ 1000000 → x ≤ 2000000
+    → (x / t * c ≤ 2000000) × (x / t * c + c ≤ 3000000)
+begun-small t c x a b d =
+    let w : x / t * c ≤ 2000000 = omega (arith, div-mul-le-self x t, mul-le-mul-left (x / t) a) in
+    (w, omega arith)
+
 -- share and candidate of a term, step by step
 module _ (t : Term) (l q : ℕ) {w : ℕ} (ew : w ≡ workIn (t .period) (t .cost) (l + t .reach)) where
   least-of-three : {a s : ℕ} (b : ℕ) → a ≡ min w b → s ≡ min a q
@@ -59,6 +66,12 @@ module _ (t : Term) (l q : ℕ) {w : ℕ} (ew : w ≡ workIn (t .period) (t .cos
       → d ≡ candidateIn t l q
   unfolding candidateIn
   candidate-made ea es er ed = ed ∙ ap₂ (λ x y. x - y) (least-of-three (t .block) ea es) er
+
+  pub growth-made : {r f d : ℕ}
+      → f ≡ min ((l + t .reach) / t .period * t .cost + t .cost) (t .cap) → r ≡ shareIn t l q → d ≡ f - r
+      → d ≡ growthIn t l q
+  unfolding growthIn
+  growth-made ef er ed = ed ∙ ap₂ (λ x y. x - y) ef er
 
 -- q, from the first length on, is l - first + 1 for both kinds
 pub cap-first : (s : System) (fl : ℕ → ℕ) (k l : ℕ) → from s fl k ≤ l → cap s fl k l ≡ l - from s fl k + 1

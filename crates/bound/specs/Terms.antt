@@ -9,13 +9,15 @@
 --
 -- Assumes nothing.
 use Prim.Native.Nat.{ℕ, zero, suc, _+_, _*_, _-_, _/_, _%_, _≤_, min}
+use mathlib.Core.Path.{_≡_}
 use mathlib.Core.Bool.{Bool, true, false}
 use mathlib.Core.List.{List}
-use lib.ListN.{getD}
 use lib.Dec.{ltb}
 use Rattle.model.specs.Bound.{Policy, EDF, FP, workIn}
+use Rattle.model.specs.Forcing.{at}
 use Rattle.table.specs.declared.Task.{Task}
 use Rattle.bound.specs.declared.Term.{Term}
+use Rattle.bound.specs.declared.Part.{Part}
 
 -- the cap besides q, by policy, k's flag, i's flag, and whether i is higher than k; e = E(k,i)
 unfoldable pub capFor : Policy → ℕ → ℕ → Bool → ℕ → ℕ
@@ -57,15 +59,29 @@ shareIn t l q = min (min (workIn (t .period) (t .cost) (l + t .reach)) (t .cap))
 unfoldable pub candidateIn : Term → ℕ → ℕ → ℕ
 candidateIn t l q = min (min (workIn (t .period) (t .cost) (l + t .reach)) (t .block)) q - shareIn t l q
 
--- what stands past the last term
-abbrev pub noTerm : Term
-noTerm = record { period = 0; cost = 0; reach = 0; cap = 0; block = 0 }
+-- how far its share grows with the length, at least: up to all the work of the jobs begun, and its cap
+unfoldable pub growthIn : Term → ℕ → ℕ → ℕ
+growthIn t l q = min ((l + t .reach) / t .period * t .cost + t .cost) (t .cap) - shareIn t l q
 
-abbrev pub termAt : List Term → ℕ → Term
-termAt ts i = getD ts i noTerm
+-- the three of one term
+pub record PartOf (t : Term) (l q : ℕ) (r : Part) : Type 0 where
+  pub share : r .share ≡ shareIn t l q
+  pub candidate : r .candidate ≡ candidateIn t l q
+  pub growth : r .growth ≡ growthIn t l q
 
--- 1 ≤ T, C ≤ T, and D - C at most 1,000,000: what keeps the sums small
+-- the term at place i, from the rows of its fields
+abbrev pub termAt : List ℕ → List ℕ → List ℕ → List ℕ → List ℕ → ℕ → Term
+termAt ps cs rs caps bs i = record {
+  period = at ps i;
+  cost = at cs i;
+  reach = at rs i;
+  cap = at caps i;
+  block = at bs i;
+}
+
+-- 1 ≤ T, C ≤ T, C and D - C at most 1,000,000: what keeps the sums small
 pub record SoundTerm (t : Term) : Type 0 where
   pub some : 1 ≤ t .period
   pub cost : t .cost ≤ t .period
+  pub short : t .cost ≤ 1000000
   pub reach : t .reach ≤ 1000000

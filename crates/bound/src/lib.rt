@@ -1,15 +1,18 @@
 // The bound of one task: the least length that satisfies its line.
 //
 // What does not depend on the length is worked out once for a task (`search_of`). The search then
-// evaluates one formula for all four kinds of sum (`sum_at`), and goes on from a length that fails at the
-// next one that can satisfy the line (`first_length`).
+// evaluates one formula for all four kinds of sum (`evaluate`), and goes on from a length that fails at the
+// next one that can satisfy the line (`advance`).
+mod jump;
+mod numbers;
+
 ghost use mathlib.Core.Path.{_≡_};
-ghost use Prim.Native.Nat.{ℕ, _+_, _-_, _*_, _/_, _%_, _≤_, _<_, min, max};
-ghost use Rattle.model.specs.Bound.{workIn, byFlag, leastLength, bound};
+ghost use Prim.Native.Nat.{_+_, _-_, _*_, _/_, _≤_, _<_};
+ghost use Rattle.model.specs.Bound.{byFlag, leastLength, bound};
 ghost use Rattle.model.specs.Forcing.{at};
 ghost use Rattle.table.specs.Table.{policyOf, systemOf, LegalTask, LegalTable};
-ghost use Rattle.bound.specs.Terms.{capFor, blockFor, termFor, noTerm, shareIn, candidateIn, SoundTerm};
-ghost use Rattle.bound.specs.Sums.{sumAt, SoundSearch, SearchOf, Raised};
+ghost use Rattle.bound.specs.Terms.{capFor, blockFor, termFor, PartOf, termAt, SoundTerm};
+ghost use Rattle.bound.specs.Sums.{Summable, EvaluatedAt, SearchOf};
 use table::Table;
 use table::Task;
 
@@ -22,48 +25,32 @@ struct Term {
     block: u32,
 }
 
-// What a term adds at one length.
+// What a term adds at one length, what it puts up as a candidate, and how far its share is sure to grow from
+// there, by one with each length.
 struct Part {
     share: u32,
     candidate: u32,
+    growth: u32,
 }
 
-// The search of one task: the first `used` terms count.
+// The whole sum at one length, with the growth of each share.
+struct Evaluated {
+    sum: u32,
+    growth: [u32; 32],
+}
+
+// The search of one task: the first `used` terms count. A row for each field of a term, so that the search
+// can lend them and copies none.
 struct Search {
     cores: u32,
     first: u32,
     lengths: u32,
     used: usize,
-    terms: [Term; 32],
-}
-
-fn least_of(a: u32, b: u32) -> u32
-    ensures { λ r. ⌜ r ≡ min a b ⌝ }
-{
-    if a <= b { a } else { b }
-}
-
-fn largest_of(a: u32, b: u32) -> u32
-    ensures { λ r. ⌜ r ≡ max a b ⌝ }
-{
-    if a <= b { b } else { a }
-}
-
-// The work of a task in a window of x quanta.
-fn work(period: u32, cost: u32, x: u32) -> u32
-    requires { ⌜ (1 ≤ period) × (cost ≤ period) × (x ≤ 2000000) ⌝ }
-    ensures { λ r. ⌜ r ≡ workIn period cost x ⌝ }
-{
-    let jobs = x / period;
-    jobs * cost + least_of(cost, x - jobs * period)
-}
-
-// E(k,i), for a deadline D_k.
-fn edf_cap(deadline: u32, period: u32, cost: u32) -> u32
-    requires { ⌜ (1 ≤ period) × (cost ≤ period) × (deadline ≤ 1000000) ⌝ }
-    ensures { λ r. ⌜ r ≡ deadline / period * cost + min cost (deadline % period) ⌝ }
-{
-    deadline / period * cost + least_of(cost, deadline % period)
+    period: [u32; 32],
+    cost: [u32; 32],
+    reach: [u32; 32],
+    cap: [u32; 32],
+    block: [u32; 32],
 }
 
 // The cap of a share besides q: none is 1,000,000, since q is never larger.
@@ -119,7 +106,7 @@ fn term_of(policy: u32, fk: u32, deadline: u32, fi: u32, task: Task, higher: boo
     requires { ⌜ (LegalTask task) × (deadline ≤ 1000000) ⌝ }
     ensures { λ r. ⌜ r ≡ termFor (policyOf policy) fk deadline fi task higher ⌝ }
 {
-    let e = edf_cap(deadline, task.period, task.cost);
+    let e = numbers::edf_cap(deadline, task.period, task.cost);
     let late = deadline < task.deadline;
     Term {
         period: task.period,
@@ -137,19 +124,6 @@ fn first_of(fk: u32, cost: u32) -> u32
     if fk == 0 { 1 } else { cost }
 }
 
-// What stands past the last term: it adds nothing at any length.
-fn no_term() -> Term
-    ensures { λ r. ⌜ r ≡ noTerm ⌝ }
-{
-    Term {
-        period: 0,
-        cost: 0,
-        reach: 0,
-        cap: 0,
-        block: 0,
-    }
-}
-
 // The search of task k. A term that adds nothing at any length is left out.
 fn search_of(t: Table, flags: [u32; 32], k: usize) -> Search
     requires { ⌜ (LegalTable t) × (k < t .n) ⌝ }
@@ -158,16 +132,23 @@ fn search_of(t: Table, flags: [u32; 32], k: usize) -> Search
     let n = t.n;
     let own = t.tasks[k];
     let fk = flags[k];
-    let none = no_term();
-    let mut terms = [none; 32];
+    let mut period = [0u32; 32];
+    let mut cost = [0u32; 32];
+    let mut reach = [0u32; 32];
+    let mut cap = [0u32; 32];
+    let mut block = [0u32; 32];
     let mut used: usize = 0;
     let mut i: usize = 0;
     while i < n {
         if i != k {
             let term = term_of(t.policy, fk, own.deadline, flags[i], t.tasks[i], i < k);
-            let most = largest_of(term.cap, term.block);
+            let most = numbers::largest_of(term.cap, term.block);
             if most != 0 {
-                terms[used] = term;
+                period[used] = term.period;
+                cost[used] = term.cost;
+                reach[used] = term.reach;
+                cap[used] = term.cap;
+                block[used] = term.block;
                 used += 1;
             }
         }
@@ -178,88 +159,122 @@ fn search_of(t: Table, flags: [u32; 32], k: usize) -> Search
         first: first_of(fk, own.cost),
         lengths: own.deadline - own.cost + 1,
         used: used,
-        terms: terms,
+        period: period,
+        cost: cost,
+        reach: reach,
+        cap: cap,
+        block: block,
     }
 }
 
-// best[j] is the largest sum of at most j of the numbers so far, for j up to m; x is one more.
-fn raise(best: [u32; 17], m: usize, x: u32) -> [u32; 17]
-    requires { ⌜ (m ≤ 16) × (x ≤ 1000000) × ((j : ℕ) → j ≤ m → at best j ≤ 100000000) ⌝ }
-    ensures { λ r. ⌜ Raised m best x r ⌝ }
-{
-    let mut next = best;
-    let mut j = m;
-    while 0 < j {
-        next[j] = largest_of(x + next[j - 1], next[j]);
-        j -= 1;
-    }
-    next
-}
-
-// a - b, or 0 where b is the larger.
-fn minus(a: u32, b: u32) -> u32
-    ensures { λ r. ⌜ r ≡ a - b ⌝ }
-{
-    if a <= b { 0 } else { a - b }
-}
-
-// What a term adds at length l, and what it puts up as a candidate.
+// What a term adds at length l, and how that grows.
 fn part_of(term: Term, l: u32, q: u32) -> Part
     requires { ⌜ (SoundTerm term) × (l ≤ 1000000) ⌝ }
-    ensures { λ r. ⌜ (r .share ≡ shareIn term l q) × (r .candidate ≡ candidateIn term l q) ⌝ }
+    ensures { λ r. ⌜ PartOf term l q r ⌝ }
 {
-    let w = work(term.period, term.cost, l + term.reach);
-    let share = least_of(least_of(w, term.cap), q);
-    let most = least_of(least_of(w, term.block), q);
+    let x = l + term.reach;
+    let w = numbers::work(term.period, term.cost, x);
+    let share = numbers::least_of(numbers::least_of(w, term.cap), q);
+    let most = numbers::least_of(numbers::least_of(w, term.block), q);
+    let full = numbers::least_of(x / term.period * term.cost + term.cost, term.cap);
     Part {
         share: share,
-        candidate: minus(most, share),
+        candidate: numbers::minus(most, share),
+        growth: numbers::minus(full, share),
     }
 }
 
-// The whole sum at length l. A candidate of 0 changes nothing, so most searches never touch the row of
-// largest sums.
-fn sum_at(s: Search, l: u32) -> u32
-    requires { ⌜ (SoundSearch s) × (s .first ≤ l) × (l ≤ 1000000) ⌝ }
-    ensures { λ r. ⌜ r ≡ sumAt s l ⌝ }
+// The term at place i of the rows.
+fn term_in<'a>(
+    period: &'a [u32; 32],
+    cost: &'a [u32; 32],
+    reach: &'a [u32; 32],
+    cap: &'a [u32; 32],
+    block: &'a [u32; 32],
+    i: usize,
+) -> Term
+    requires { ⌜ i < 32 ⌝ }
+    ensures { λ r. ⌜ r ≡ termAt (now (period .entry)) (now (cost .entry)) (now (reach .entry))
+        (now (cap .entry)) (now (block .entry)) i ⌝ }
 {
-    let q = l - s.first + 1;
-    let m = s.cores as usize;
-    let used = s.used;
+    Term {
+        period: period[i],
+        cost: cost[i],
+        reach: reach[i],
+        cap: cap[i],
+        block: block[i],
+    }
+}
+
+// The whole sum of the first `used` terms at length l. A candidate of 0 changes nothing, so most searches
+// never touch the row of largest sums.
+fn evaluate<'a>(
+    period: &'a [u32; 32],
+    cost: &'a [u32; 32],
+    reach: &'a [u32; 32],
+    cap: &'a [u32; 32],
+    block: &'a [u32; 32],
+    used: usize,
+    m: usize,
+    l: u32,
+    q: u32,
+) -> Evaluated
+    requires { ⌜ Summable (termAt (now period) (now cost) (now reach) (now cap) (now block)) m used l q ⌝ }
+    ensures { λ r. ⌜ EvaluatedAt (termAt (now (period .entry)) (now (cost .entry)) (now (reach .entry))
+        (now (cap .entry)) (now (block .entry))) m used l q r ⌝ }
+{
     let mut sum: u32 = 0;
+    let mut growth = [0u32; 32];
     let mut best = [0u32; 17];
     let mut i: usize = 0;
     while i < used {
-        let part = part_of(s.terms[i], l, q);
+        let term = term_in(period, cost, reach, cap, block, i);
+        let part = part_of(term, l, q);
         sum += part.share;
+        growth[i] = part.growth;
         if part.candidate != 0 {
-            let next = raise(best, m, part.candidate);
-            best = next;
+            numbers::raise(&mut best, m, part.candidate);
         }
         i += 1;
     }
-    sum + best[m]
+    let whole = sum + best[m];
+    Evaluated {
+        sum: whole,
+        growth: growth,
+    }
 }
 
 // The least length that satisfies task k's line, or 0. The line first + ⌊sum / m⌋ ≤ l holds exactly if
-// sum < m × q, so that a division is needed only to go on: B never falls, so no length before first +
-// B(l) satisfies the line.
+// sum < m × q, so it needs no division. The sum grows at least as its shares must, so the search goes on
+// at the first length at which that much growth leaves the line true.
 fn first_length(t: Table, flags: [u32; 32], k: usize) -> u32
     requires { ⌜ (LegalTable t) × (k < t .n) ⌝ }
     ensures { λ r. ⌜ r ≡ leastLength (systemOf t) (at flags) k ⌝ }
 {
     let s = search_of(t, flags, k);
     let m = s.cores;
+    let cores = m as usize;
     let first = s.first;
+    let used = s.used;
     let end = first + s.lengths;
     let mut l = first;
     loop {
-        let sum = sum_at(s, l);
-        let enough = m * (l - first + 1);
-        if sum < enough {
+        let q = l - first + 1;
+        let e = evaluate(
+            &s.period,
+            &s.cost,
+            &s.reach,
+            &s.cap,
+            &s.block,
+            used,
+            cores,
+            l,
+            q,
+        );
+        if e.sum < m * q {
             break l;
         }
-        let next = first + sum / m;
+        let next = l + jump::advance(&e.growth, used, m, e.sum, q, end - l);
         if end <= next {
             break 0;
         }

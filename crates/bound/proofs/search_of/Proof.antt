@@ -9,14 +9,17 @@ use borrow.Author.Needs.{needs}
 use Rattle.model.specs.Forcing.{at}
 use Rattle.bound.proofs.Gather.{Gathered, gather-start, gather-own, gather-idle}
 use Rattle.bound.proofs.Gather.{gather-more, gather-end}
+use Rattle.bound.proofs.TermRows.{rows, sized-zero}
 use Rattle.bound.proofs.search_of.Statement.{statement}
 use Rattle.bound.proofs.search_of.Tie as tie
 
 abbrev Inv-loop : tie.InvT-loop
-Inv-loop k t flags n own fk terms₀ used₀ i₀ terms used i = Gathered t (at flags) k terms used i
+Inv-loop k t flags n own fk period₀ cost₀ reach₀ cap₀ block₀ used₀ i₀ period cost reach cap block used i =
+    Gathered t (at flags) k (rows period cost reach cap block) used i
 
 abbrev μ-loop : tie.MeasureT-loop
-μ-loop k t flags n own fk terms₀ used₀ i₀ terms used i = n - i
+μ-loop k t flags n own fk period₀ cost₀ reach₀ cap₀ block₀ used₀ i₀ period cost reach cap block used i =
+    n - i
 
 mul-own : tie.Need-mul-own Inv-loop μ-loop
 mul-own c = search needs
@@ -30,11 +33,9 @@ mul-fk c = search needs
 array-read-fk : tie.Need-array-read-fk Inv-loop μ-loop
 array-read-fk c = search needs
 
-no-term-requires : tie.Need-no-term-requires Inv-loop μ-loop
-no-term-requires c κs = search needs
-
 loop-holds : tie.Need-loop-holds Inv-loop μ-loop
-loop-holds c = gather-start _ _ _ _ refl
+loop-holds c =
+    gather-start _ _ _ _ sized-zero
 
 mul-term-of : tie.Need-mul-term-of Inv-loop μ-loop
 mul-term-of c = search needs
@@ -50,7 +51,7 @@ element-copy-out-term-of c = search needs
 
 term-of-requires : tie.Need-term-of-requires Inv-loop μ-loop
 term-of-requires c κs =
-    let s = c .before .before .before .before .before .before in (
+    let s = c .before .before .before .before .before in (
       s .pre .0 .each _ (c .before .before .loop-test .taken),
       omega (arith, s .pre .0 .each (s .args .k) (s .pre .1)),
     )
@@ -58,11 +59,35 @@ term-of-requires c κs =
 largest-of-requires : tie.Need-largest-of-requires Inv-loop μ-loop
 largest-of-requires c κs = search needs
 
-mul-terms : tie.Need-mul-terms Inv-loop μ-loop
-mul-terms c = search needs
+mul-period : tie.Need-mul-period Inv-loop μ-loop
+mul-period c = search needs
 
-array-set-from-terms : tie.Need-array-set-from-terms Inv-loop μ-loop
-array-set-from-terms c = search needs
+array-write-period : tie.Need-array-write-period Inv-loop μ-loop
+array-write-period c = search needs
+
+mul-cost : tie.Need-mul-cost Inv-loop μ-loop
+mul-cost c = search needs
+
+array-write-cost : tie.Need-array-write-cost Inv-loop μ-loop
+array-write-cost c = search needs
+
+mul-reach : tie.Need-mul-reach Inv-loop μ-loop
+mul-reach c = search needs
+
+array-write-reach : tie.Need-array-write-reach Inv-loop μ-loop
+array-write-reach c = search needs
+
+mul-cap : tie.Need-mul-cap Inv-loop μ-loop
+mul-cap c = search needs
+
+array-write-cap : tie.Need-array-write-cap Inv-loop μ-loop
+array-write-cap c = search needs
+
+mul-block : tie.Need-mul-block Inv-loop μ-loop
+mul-block c = search needs
+
+array-write-block : tie.Need-array-write-block Inv-loop μ-loop
+array-write-block c = search needs
 
 add-used : tie.Need-add-used Inv-loop μ-loop
 add-used c = search needs
@@ -76,33 +101,36 @@ loop-less c = search needs
 loop-again : tie.Need-loop-again Inv-loop μ-loop
 loop-again c =
     let a = c .before .before in
-    let legal = a .before .before .before .pre .0 in
+    let legal = a .before .before .pre .0 in
     let lt = c .before .loop-test .taken in
-    ⊎-elim (λ w. rw (w .5, w .6) (gather-more legal (a .loop .inv) lt (w .0 .taken) (w .2 .ensures)))
+    let inv = a .loop .inv in
+    ⊎-elim
+    (λ w.
+    rw (w .5, w .6, w .7, w .8, w .9, w .10) (gather-more legal inv lt (w .0 .taken) (w .2 .ensures)))
     (⊎-elim
     (λ w.
     let idle = sym (w .3 .ensures) ∙ w .4 .left in
-    rw (w .5, w .6) (gather-idle legal (a .loop .inv) lt (w .0 .taken) (w .2 .ensures) idle))
-    (λ w. rw (w .1, w .2) (gather-own legal (a .loop .inv) lt (w .0 .left))))
+    rw (w .5, w .6, w .7, w .8, w .9, w .10) (gather-idle legal inv lt (w .0 .taken) (w .2 .ensures) idle))
+    (λ w. rw (w .1, w .2, w .3, w .4, w .5, w .6) (gather-own legal inv lt (w .0 .left))))
     (c .if1 .came)
 
 first-of-requires : tie.Need-first-of-requires Inv-loop μ-loop
 first-of-requires c κs = search needs
 
-sub-t37 : tie.Need-sub-t37 Inv-loop μ-loop
-sub-t37 c =
-    let s = c .before .before .before .before .before .before in
+sub-t48 : tie.Need-sub-t48 Inv-loop μ-loop
+sub-t48 c =
+    let s = c .before .before .before .before .before in
     omega (arith, s .pre .0 .each (s .args .k) (s .pre .1))
 
-add-t38 : tie.Need-add-t38 Inv-loop μ-loop
-add-t38 c =
-    let s = c .before .before .before .before .before .before in
+add-t49 : tie.Need-add-t49 Inv-loop μ-loop
+add-t49 c =
+    let s = c .before .before .before .before .before in
     omega (arith, s .pre .0 .each (s .args .k) (s .pre .1))
 
 returns : tie.Need-returns Inv-loop μ-loop
 returns c =
     let a = c .before .before .before in
-    let pre = a .before .before .before .pre in
+    let pre = a .before .before .pre in
     gather-end (pre .0) _ _ (pre .1) _ _ (a .loop .inv) (c .before .before .loop-test .left)
     (c .before .first-of .ensures) refl
 
@@ -116,7 +144,6 @@ search-of-spec =
     element-copy-out-own
     mul-fk
     array-read-fk
-    no-term-requires
     loop-holds
     mul-term-of
     array-read-term-of
@@ -124,13 +151,21 @@ search-of-spec =
     element-copy-out-term-of
     term-of-requires
     largest-of-requires
-    mul-terms
-    array-set-from-terms
+    mul-period
+    array-write-period
+    mul-cost
+    array-write-cost
+    mul-reach
+    array-write-reach
+    mul-cap
+    array-write-cap
+    mul-block
+    array-write-block
     add-used
     add-i
     loop-less
     loop-again
     first-of-requires
-    sub-t37
-    add-t38
+    sub-t48
+    add-t49
     returns)

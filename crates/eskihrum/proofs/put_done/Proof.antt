@@ -1,0 +1,64 @@
+-- `eskihrum::put_done` meets its contract. The loop's invariant: the records passed are written.
+-- Assumes nothing.
+use Prim.Native.Nat.{_≤_, _-_}
+use native.Mathlib.Omega.{arith}
+use borrow.Author.Needs.{needs}
+use Rattle.eskihrum.proofs.FlatLaws.{Putting, putting-start, putting-length, putting-step, putting-end}
+use Rattle.eskihrum.proofs.put_done.Statement.{statement}
+use Rattle.eskihrum.proofs.put_done.Tie as tie
+
+abbrev Inv-loop : tie.InvT-loop
+Inv-loop out₀ d n i₀ out i = Putting d out₀ i out
+
+abbrev μ-loop : tie.MeasureT-loop
+μ-loop out₀ d n i₀ out i = d .count - i
+
+loop-holds : tie.Need-loop-holds Inv-loop μ-loop
+loop-holds c = putting-start (c .before .args .t2) (c .before .args .out .now)
+
+mul-r : tie.Need-mul-r Inv-loop μ-loop
+mul-r c = search needs
+
+element-copy-out-r : tie.Need-element-copy-out-r Inv-loop μ-loop
+element-copy-out-r c = search needs
+
+put-record-requires : tie.Need-put-record-requires Inv-loop μ-loop
+put-record-requires c κs =
+    (omega arith, omega (arith, putting-length _ _ _ _ (c .before .before .before .loop .inv)))
+
+add-i : tie.Need-add-i Inv-loop μ-loop
+add-i c = search needs
+
+loop-less : tie.Need-loop-less Inv-loop μ-loop
+loop-less c = search needs
+
+loop-again : tie.Need-loop-again Inv-loop μ-loop
+loop-again c =
+    putting-step _ _ _ _ (c .before .before .before .before .before .before .loop .inv) _ (omega arith)
+    (omega arith) (c .before .before .put-record .ensures)
+
+code-of-requires : tie.Need-code-of-requires Inv-loop μ-loop
+code-of-requires c κs = search needs
+
+same-length : tie.Need-same-length Inv-loop μ-loop
+same-length c = putting-length _ _ _ _ (c .before .before .loop .inv)
+
+returns : tie.Need-returns Inv-loop μ-loop
+returns c = putting-end _ _ _ _ (c .before .before .loop .inv) _ (omega arith) (c .code-of .ensures)
+
+pub put-done-spec : {M : Type 1} → statement M
+put-done-spec =
+    tie.close
+    (tie.spec
+    Inv-loop
+    μ-loop
+    loop-holds
+    mul-r
+    element-copy-out-r
+    put-record-requires
+    add-i
+    loop-less
+    loop-again
+    code-of-requires
+    same-length
+    returns)

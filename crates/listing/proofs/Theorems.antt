@@ -1,0 +1,39 @@
+-- What the listing is, over its definition: each theorem states one sentence and cites its law.
+--
+--   any two results that the promise of `write_listing` allows are equal      listing-only
+--   every listing fits in 2,048 bytes                                         listing-room
+--   a text's listing is that of its first 1,004 bytes                         listing-settled
+--   document 01's own example, and the empty input (case l)                   example, empty
+--
+-- Assumes nothing.
+use Prim.Native.Nat.{ℕ, _≤_}
+use mathlib.Core.Path.{_≡_}
+use mathlib.Core.List.{List, [], _++_}
+use lib.ListN.{length, take}
+use Rattle.page.specs.Words.{word}
+use Rattle.listing.specs.Listing.{listingOf, Listed}
+use Rattle.listing.proofs.ListedLaws.{listed-only}
+use Rattle.listing.proofs.AllFit.{listing-fits}
+use Rattle.listing.proofs.FirstLaws.{listing-first}
+use Rattle.listing.proofs.Samples as samples
+
+pub listing-only : {text old a b : List ℕ} {r r′ : ℕ} → Listed text old r a → Listed text old r′ b
+    → (r ≡ r′) × (a ≡ b)
+listing-only = listed-only
+
+pub listing-room : (text : List ℕ) → length (listingOf text) ≤ 2048
+listing-room = listing-fits
+
+pub listing-settled : (text : List ℕ) → listingOf (take 1004 text) ≡ listingOf text
+listing-settled = listing-first
+
+pub example : listingOf
+    (word "01010102FB\n"
+    ++ (word "02010000000C000000040000000CE1\n" ++ word "0201000000180000000900000012CA\n"))
+    ≡ word "plan FP cores 1 tasks 2\n"
+    ++ (word "task 1 N forced bound 12 deadline 12 load 333\n"
+    ++ (word "task 2 N forced bound 17 deadline 18 load 375\n" ++ word "total load 708 forced 2 passes 3\n"))
+example = samples.example
+
+pub empty : listingOf [] ≡ word "refused 1 place 1\n"
+empty = samples.empty

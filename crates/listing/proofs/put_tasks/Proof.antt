@@ -1,0 +1,83 @@
+-- `listing::put_tasks` meets its contract: after i turns the lines of the first i tasks are written.
+-- Assumes nothing.
+use Prim.Native.Nat.{_-_}
+use native.Mathlib.Omega.{arith}
+use borrow.Author.Needs.{needs}
+use Rattle.page.proofs.PageLaws.{put-length}
+use Rattle.listing.proofs.LoadLaws.{task-ranges}
+use Rattle.listing.proofs.TaskLaws.{Writing, writing-start, writing-room, writing-step, writing-end}
+use Rattle.listing.proofs.put_tasks.Statement.{statement}
+use Rattle.listing.proofs.put_tasks.Tie as tie
+
+abbrev Inv-loop : tie.InvT-loop
+Inv-loop out₀ at t recs n place₀ number₀ i₀ out place number i = Writing out₀ at t recs out place number i
+
+abbrev μ-loop : tie.MeasureT-loop
+μ-loop out₀ at t recs n place₀ number₀ i₀ out place number i = n - i
+
+loop-holds : tie.Need-loop-holds Inv-loop μ-loop
+loop-holds c = writing-start (c .before .pre .0) (c .before .pre .1)
+
+mul-task : tie.Need-mul-task Inv-loop μ-loop
+mul-task c = omega (arith, c .before .loop .inv .legal .count)
+
+element-copy-out-task : tie.Need-element-copy-out-task Inv-loop μ-loop
+element-copy-out-task c = omega (arith, c .before .loop .inv .legal .count)
+
+mul-rec : tie.Need-mul-rec Inv-loop μ-loop
+mul-rec c = omega (arith, c .before .before .loop .inv .legal .count)
+
+array-copy-out-rec : tie.Need-array-copy-out-rec Inv-loop μ-loop
+array-copy-out-rec c = omega (arith, c .before .before .loop .inv .legal .count)
+
+add-number : tie.Need-add-number Inv-loop μ-loop
+add-number c = omega (arith, c .before .before .before .loop .inv .legal .count)
+
+task-load-requires : tie.Need-task-load-requires Inv-loop μ-loop
+task-load-requires c κs =
+    let turn = c .before .before in
+    task-ranges _ (turn .before .loop .inv .legal) _ (turn .loop-test .taken)
+
+put-task-requires : tie.Need-put-task-requires Inv-loop μ-loop
+put-task-requires c κs =
+    let turn = c .before .before .before .before in
+    writing-room (turn .before .loop .inv) (turn .loop-test .taken) (c .before .task-load .ensures)
+
+add-i : tie.Need-add-i Inv-loop μ-loop
+add-i c = search needs
+
+loop-less : tie.Need-loop-less Inv-loop μ-loop
+loop-less c = search needs
+
+loop-again : tie.Need-loop-again Inv-loop μ-loop
+loop-again c =
+    let load = c .before .before .before .before in
+    let turn = load .before .before .before in
+    let put = c .before .before .put-task in
+    writing-step (turn .before .loop .inv) (turn .loop-test .taken) (load .task-load .ensures) (put .ensures)
+
+same-length : tie.Need-same-length Inv-loop μ-loop
+same-length c = put-length (c .before .loop .inv .done)
+
+returns : tie.Need-returns Inv-loop μ-loop
+returns c = writing-end (c .before .loop .inv) (omega arith)
+
+pub put-tasks-spec : {M : Type 1} → statement M
+put-tasks-spec =
+    tie.close
+    (tie.spec
+    Inv-loop
+    μ-loop
+    loop-holds
+    mul-task
+    element-copy-out-task
+    mul-rec
+    array-copy-out-rec
+    add-number
+    task-load-requires
+    put-task-requires
+    add-i
+    loop-less
+    loop-again
+    same-length
+    returns)

@@ -1,0 +1,90 @@
+-- Document 01, "The listing": every byte of the listing of a plan text after forcing.
+--
+--   document 01                                    here
+--   the load of the task at a place, the total     loadAt, totalLoad
+--   line one, the tasks' lines, the last line      acceptedText
+--   a refused plan's one line                      answerText, of a refusal
+--   what the plan printer writes                   listingOf text
+--   what a buffer holds then                       Listed
+--
+-- The lines themselves are in the crate listing_lines. Assumes nothing.
+use Prim.Native.Nat.{ℕ, zero, suc, _+_, _≤_}
+use mathlib.Core.Path.{_≡_}
+use mathlib.Core.List.{List, [], _++_}
+use lib.ListN.{length, drop}
+use lib.Dec.{ltb}
+use Rattle.model.specs.Sums.{pick, sumTo}
+use Rattle.table.specs.Table.{taskAt}
+use Rattle.table.specs.declared.Table.{Table}
+use Rattle.lines.specs.Reads.{readOf}
+use Rattle.answer.specs.declared.Record.{Record}
+use Rattle.answer.specs.declared.Job.the-variants.{Force}
+use Rattle.answer.specs.declared.Answer.{Answer}
+use Rattle.answer.specs.declared.Answer.the-variants.{Yes, No, Accepted, Refused}
+use Rattle.answer.specs.Records.{recordAt}
+use Rattle.answer.specs.Done.{planDone}
+use Rattle.listing_lines.specs.declared.TaskRow.{TaskRow}
+use Rattle.listing_lines.specs.Lines.{load, lineOne, taskLine, lastLine, refusalLine}
+
+-- of the task at a place, counted from 0
+abbrev pub loadAt : Table → ℕ → ℕ
+loadAt t i = load (taskAt (t .tasks) i .cost) (taskAt (t .tasks) i .period)
+
+unfoldable pub totalLoad : Table → ℕ
+totalLoad t = sumTo (loadAt t) (t .n)
+
+-- what the line of the task at a place shows; its number counts from 1
+abbrev pub rowAt : Table → List Record → ℕ → TaskRow
+rowAt t rs i = record {
+  number = i + 1;
+  flag = recordAt rs i .flag;
+  forced = recordAt rs i .forced;
+  bound = recordAt rs i .bound;
+  deadline = taskAt (t .tasks) i .deadline;
+  load = loadAt t i;
+}
+
+abbrev pub lineAt : Table → List Record → ℕ → List ℕ
+lineAt t rs i = taskLine (rowAt t rs i)
+
+-- the lines of the first n places
+unfoldable pub linesTo : (ℕ → List ℕ) → ℕ → List ℕ
+linesTo f zero = []
+linesTo f (suc n) = linesTo f n ++ f n
+
+-- the listing of an accepted plan
+unfoldable pub acceptedText : Table → List Record → ℕ → ℕ → List ℕ
+acceptedText t rs forced passes =
+    lineOne (t .policy) (t .cores) (t .n)
+    ++ (linesTo (lineAt t rs) (t .n) ++ lastLine (totalLoad t) forced passes)
+
+-- by the answer of forcing, which is never a plain yes or no
+abbrev pub answerText : Table → List Record → Answer → List ℕ
+answerText t rs Yes = []
+answerText t rs No = []
+answerText t rs (Accepted forced passes) = acceptedText t rs forced passes
+answerText t rs (Refused number place passes) = refusalLine number place passes
+
+-- the listing of a plan text; 32 records are room for every table
+unfoldable pub listingOf : List ℕ → List ℕ
+listingOf text =
+    answerText (readOf text .table) (planDone text Force 32 .recs) (planDone text Force 32 .answer)
+
+-- every listing fits in so many bytes
+abbrev pub listingRoom : ℕ
+listingRoom = 2048
+
+-- the answer, and the buffer then, by the test whether there is too little room
+abbrev pub countOf : List ℕ → List ℕ → ℕ
+countOf text old = pick (ltb (length old) listingRoom) 0 (length (listingOf text))
+
+abbrev pub bytesOf : List ℕ → List ℕ → List ℕ
+bytesOf text old =
+    pick (ltb (length old) listingRoom) old (listingOf text ++ drop (length (listingOf text)) old)
+
+-- A buffer with less room stays as it is, and the answer is 0. Else the listing stands at its start, the
+-- rest of the buffer is as it was, and the answer is the number of bytes written. It lies within the buffer.
+pub record Listed (text old : List ℕ) (r : ℕ) (new : List ℕ) : Type 0 where
+  pub answer : r ≡ countOf text old
+  pub bytes : new ≡ bytesOf text old
+  pub within : r ≤ length new

@@ -1,0 +1,114 @@
+-- Each line of the listing as the words that are written one after the other, and its length by theirs.
+-- Assumes nothing.
+use Prim.Native.Nat.{ℕ, _+_, _≤_}
+use mathlib.Core.Bool.{Bool, true, false}
+use native.Mathlib.Omega.{arith}
+use mathlib.Core.Path.{_≡_, refl, ap, _∙_}
+use mathlib.Core.List.{List, _++_, append-assoc, append-nil}
+use lib.ListN.{length, length-append}
+use lib.Dec.{eqb}
+use borrow.Author.Tests.{eq-eqb, ne-eqb, eqb-true, eqb-false}
+use Rattle.page.specs.Decimal.{decimal}
+use Rattle.page.specs.Words.{word, either}
+use Rattle.page.proofs.WordLaws.{either-after}
+use Rattle.listing_lines.specs.declared.TaskRow.{TaskRow}
+use Rattle.listing_lines.specs.Lines.{lineOne, taskStart, taskLine, lastLine, refusalLine}
+
+-- a word with a number after it
+abbrev pub field : List ℕ → ℕ → List ℕ
+field w n = w ++ decimal n
+
+module _ (policy cores n : ℕ) where
+  pub line-one-parts : lineOne policy cores n
+      ≡ either policy (word "plan EDF") (word "plan FP")
+      ++ (field (word " cores ") cores ++ (field (word " tasks ") n ++ word "\n"))
+  unfolding lineOne
+  line-one-parts =
+      simp (append-assoc, append-nil, either-after policy (word "plan ") (word "EDF") (word "FP"))
+
+  pub line-one-length : length (lineOne policy cores n)
+      ≡ length (either policy (word "plan EDF") (word "plan FP"))
+      + length (decimal cores)
+      + length (decimal n)
+      + 15
+  line-one-length = ap length line-one-parts ∙ simp length-append (omega arith)
+
+module _ (number flag forced : ℕ) where
+  pub start-parts : taskStart number flag forced
+      ≡ field (word "task ") number
+      ++ (either flag (word " N") (word " P") ++ either forced (word " given") (word " forced"))
+  unfolding taskStart
+  start-parts =
+      simp (
+        append-assoc,
+        append-nil,
+        either-after flag (word " ") (word "N") (word "P"),
+        either-after forced (word " ") (word "given") (word "forced"),
+      )
+
+  pub start-length : length (taskStart number flag forced)
+      ≡ length (decimal number)
+      + length (either flag (word " N") (word " P"))
+      + length (either forced (word " given") (word " forced"))
+      + 5
+  start-length = ap length start-parts ∙ simp length-append (omega arith)
+
+module _ (r : TaskRow) where
+  pub task-parts : taskLine r
+      ≡ taskStart (r .number) (r .flag) (r .forced)
+      ++ (field (word " bound ") (r .bound)
+      ++ (field (word " deadline ") (r .deadline) ++ (field (word " load ") (r .load) ++ word "\n")))
+  unfolding taskLine
+  task-parts = simp (append-assoc, append-nil)
+
+  pub task-length : length (taskLine r)
+      ≡ length (taskStart (r .number) (r .flag) (r .forced))
+      + length (decimal (r .bound))
+      + length (decimal (r .deadline))
+      + length (decimal (r .load))
+      + 24
+  task-length = ap length task-parts ∙ simp length-append (omega arith)
+
+module _ (total forced passes : ℕ) where
+  pub last-parts : lastLine total forced passes
+      ≡ field (word "total load ") total
+      ++ (field (word " forced ") forced ++ (field (word " passes ") passes ++ word "\n"))
+  unfolding lastLine
+  last-parts = simp (append-assoc, append-nil)
+
+  pub last-length : length (lastLine total forced passes)
+      ≡ length (decimal total) + length (decimal forced) + length (decimal passes) + 28
+  last-length = ap length last-parts ∙ simp length-append (omega arith)
+
+module _ (number place passes : ℕ) where
+  pub refusal-parts : (number ≡ 14 → ⊥)
+      → refusalLine number place passes
+      ≡ field (word "refused ") number ++ (field (word " place ") place ++ word "\n")
+  unfolding refusalLine
+  refusal-parts h = rw (ne-eqb number 14 h) (simp (append-assoc, append-nil))
+
+  pub refusal-length : (number ≡ 14 → ⊥)
+      → length (refusalLine number place passes) ≡ length (decimal number) + length (decimal place) + 16
+  refusal-length h = ap length (refusal-parts h) ∙ simp length-append (omega arith)
+
+  pub refusal-parts-14 : number ≡ 14
+      → refusalLine number place passes
+      ≡ field (word "refused ") number
+      ++ (field (word " place ") place ++ (field (word " passes ") passes ++ word "\n"))
+  unfolding refusalLine
+  refusal-parts-14 h = rw (eq-eqb number 14 h) (simp (append-assoc, append-nil))
+
+  pub refusal-length-14 : number ≡ 14
+      → length (refusalLine number place passes)
+      ≡ length (decimal number) + length (decimal place) + length (decimal passes) + 24
+  refusal-length-14 h = ap length (refusal-parts-14 h) ∙ simp length-append (omega arith)
+
+  -- what both kinds of refusal have in common fits in either
+  pub refusal-least : length (decimal number) + length (decimal place) + 16
+      ≤ length (refusalLine number place passes)
+  refusal-least = go (eqb number 14) refl
+    where
+      go : (t : Bool) → eqb number 14 ≡ t
+          → length (decimal number) + length (decimal place) + 16 ≤ length (refusalLine number place passes)
+      go true e = omega (arith, refusal-length-14 (eqb-true number 14 e))
+      go false e = omega (arith, refusal-length (eqb-false number 14 e))

@@ -1,0 +1,65 @@
+-- Document 01, "The listing": the bytes of each line, and the load of a task.
+--
+--   document 01                                                  here
+--   the load of a task                                           load C T
+--   line one: policy, cores, tasks                               lineOne
+--   a task's line: number, flag, forced or given,                taskLine, of a row of these
+--     bound, deadline, load
+--   last line: total load, forced count, passes                  lastLine
+--   a refused plan's one line; for 14 the passes follow          refusalLine
+--
+-- A word is `word ".."`, a number is `decimal n`, and `line` parts words by one space and ends with 0A.
+-- Assumes nothing.
+use Prim.Native.Nat.{ℕ, _*_, _/_}
+use mathlib.Core.List.{List, [], _∷_}
+use lib.Dec.{eqb}
+use Rattle.model.specs.Sums.{pick}
+use Rattle.page.specs.Decimal.{decimal}
+use Rattle.page.specs.Words.{word, either, spaced, line}
+use Rattle.listing_lines.specs.declared.TaskRow.{TaskRow}
+
+-- floor(1000 × C / T)
+unfoldable pub load : ℕ → ℕ → ℕ
+load C T = 1000 * C / T
+
+unfoldable pub lineOne : ℕ → ℕ → ℕ → List ℕ
+lineOne policy cores n =
+    line
+    (word "plan"
+    ∷ either policy (word "EDF") (word "FP")
+    ∷ word "cores" ∷ decimal cores
+    ∷ word "tasks" ∷ decimal n
+    ∷ [])
+
+-- the words of a task's line up to forced or given
+unfoldable pub taskStart : ℕ → ℕ → ℕ → List ℕ
+taskStart number flag forced =
+    spaced
+    (word "task" ∷ decimal number
+    ∷ either flag (word "N") (word "P")
+    ∷ either forced (word "given") (word "forced")
+    ∷ [])
+
+unfoldable pub taskLine : TaskRow → List ℕ
+taskLine r =
+    line
+    (taskStart (r .number) (r .flag) (r .forced)
+    ∷ word "bound" ∷ decimal (r .bound)
+    ∷ word "deadline" ∷ decimal (r .deadline)
+    ∷ word "load" ∷ decimal (r .load)
+    ∷ [])
+
+unfoldable pub lastLine : ℕ → ℕ → ℕ → List ℕ
+lastLine total forced passes =
+    line
+    (word "total" ∷ word "load" ∷ decimal total
+    ∷ word "forced" ∷ decimal forced
+    ∷ word "passes" ∷ decimal passes
+    ∷ [])
+
+unfoldable pub refusalLine : ℕ → ℕ → ℕ → List ℕ
+refusalLine number place passes =
+    pick (eqb number 14)
+    (line
+    (word "refused" ∷ decimal number ∷ word "place" ∷ decimal place ∷ word "passes" ∷ decimal passes ∷ []))
+    (line (word "refused" ∷ decimal number ∷ word "place" ∷ decimal place ∷ []))

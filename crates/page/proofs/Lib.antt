@@ -1,0 +1,5 @@
+pub mod PageLaws
+pub mod DecimalLaws
+pub mod NumberLaws
+pub mod WordLaws
+pub mod Unique
