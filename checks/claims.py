@@ -1,5 +1,5 @@
 #!/usr/bin/env python3
-"""claims.py: docs/CLAIMS.md names theorems that exist, and README and the docs name files that exist.
+"""claims.py: docs/CLAIMS.md names theorems and edits that exist, README and the docs name files that exist.
 
 A row of CLAIMS.md ends in a theorem and a file, each in backquotes: | sentence | `theorem` | `path` |.
 The theorem has to be declared in that file, and public there. Prints what is wrong, and exits with 1.
@@ -36,6 +36,14 @@ def claimed():
         yield "docs/CLAIMS.md: no row names a theorem"
 
 
+def edits():
+    """Must-fail edits, written CRATE/LABEL in backquotes."""
+    text = (ROOT / "docs" / "CLAIMS.md").read_text(encoding="utf-8")
+    for crate, label in re.findall(r"`([a-z_]+)/([a-z0-9_]+)`", text):
+        if not (ROOT / "crates" / crate / "must-fail" / f"{label}.edit").is_file():
+            yield f"docs/CLAIMS.md: there is no edit {crate}/{label}"
+
+
 def linked():
     """Paths in backquotes or links of the papers, where they look like files of this repository."""
     for paper in [ROOT / "README.md", *sorted((ROOT / "docs").glob("*.md"))]:
@@ -46,7 +54,7 @@ def linked():
 
 
 def main():
-    wrong = [*claimed(), *linked()]
+    wrong = [*claimed(), *edits(), *linked()]
     for line in wrong:
         print(line)
     if wrong:

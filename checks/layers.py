@@ -27,12 +27,12 @@ def crates():
 
 def below(names, crate):
     """Every crate that stands under `crate`."""
-    seen, todo = set(), list(names.get(crate, []))
-    while todo:
-        one = todo.pop()
+    seen, waiting = set(), list(names.get(crate, []))
+    while waiting:
+        one = waiting.pop()
         if one not in seen:
             seen.add(one)
-            todo += names.get(one, [])
+            waiting += names.get(one, [])
     return seen
 
 

@@ -6,7 +6,7 @@ use native.Mathlib.Numerals.{add-one}
 use mathlib.Core.Path.{_≡_, refl, sym, ap, _∙_}
 use mathlib.Core.Bool.{Bool, true, false}
 use mathlib.Core.List.{List}
-use lib.ListN.{set, List·getD-eq-default}
+use lib.ListN.{set}
 use lib.Dec.{eqb}
 use borrow.Author.Tests.{eq-eqb}
 use Rattle.model.specs.Sums.{pick, sumTo}
@@ -14,11 +14,9 @@ use Rattle.model.specs.Forcing.{at, tab}
 use Rattle.model.proofs.ForcingLaws.{tab-at}
 use Rattle.table.specs.Table.{taskAt, flagsOf, row}
 use Rattle.table.specs.declared.Table.{Table}
-use Rattle.table.proofs.RowLaws.{tab-length}
-use Rattle.table.proofs.RowLaws.{row-length as row-is-long}
 use Rattle.answer.specs.declared.Record.{Record}
 use Rattle.answer.specs.Records.{rowOf, noRecord, recordsOf, changed, changes}
-use Rattle.answer.proofs.RowLaws.{row-is, row-store}
+use Rattle.answer.proofs.RowLaws.{row-store}
 
 -- a row holds its list, and zeros past its end
 pub row-holds : (xs : List ℕ) (j : ℕ) → j < 32 → at (row xs) j ≡ at xs j
@@ -32,17 +30,6 @@ module _ (t : Table) where
   pub flags-at : (j : ℕ) → j < t .n → at (flagsOf t) j ≡ flagAt j
   unfolding flagsOf
   flags-at j h = tab-at flagAt (t .n) j h
-
-  flags-past : (j : ℕ) → t .n ≤ j → at (flagsOf t) j ≡ 0
-  unfolding flagsOf
-  flags-past j h = List·getD-eq-default (tab flagAt 0 (t .n)) 0 (omega (arith, tab-length flagAt 0 (t .n)))
-
-  pub flags-end : t .n ≤ 32 → rowOf 0 flagAt (t .n) ≡ row (flagsOf t)
-  flags-end small =
-      sym
-      (row-is 0 flagAt (t .n) (row (flagsOf t)) (row-is-long (flagsOf t))
-      (λ j h s. row-holds (flagsOf t) j s ∙ flags-at j h)
-      (λ j h s. row-holds (flagsOf t) j s ∙ flags-past j h))
 
 -- a flag that stays is not marked
 pub unchanged : (x : ℕ) → changed x x ≡ 0

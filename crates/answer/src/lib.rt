@@ -4,7 +4,7 @@ ghost use mathlib.Core.Path.{_≡_};
 ghost use Prim.Native.Nat.{_≤_};
 ghost use Rattle.model.specs.Forcing.{at};
 ghost use Rattle.model.specs.Sums.{sumTo};
-ghost use Rattle.table.specs.Table.{LegalTable, flagsOf, row};
+ghost use Rattle.table.specs.Table.{LegalTable};
 ghost use Rattle.answer.specs.Records.{changed, changes, recordsOf};
 ghost use Rattle.answer.specs.Done.{refuse, testDone, forceDone, tableDone, planDone, listDone};
 use table::Checked;
@@ -68,21 +68,6 @@ fn refused(number: u32, place: u32, passes: u32) -> Done
     }
 }
 
-// The flags of a table as sent.
-fn given_flags(t: Table) -> [u32; 32]
-    requires { ⌜ t .n ≤ 32 ⌝ }
-    ensures { λ r. ⌜ r ≡ row (flagsOf t) ⌝ }
-{
-    let n = t.n;
-    let mut flags = [0u32; 32];
-    let mut i: usize = 0;
-    while i < n {
-        flags[i] = t.tasks[i].flag;
-        i += 1;
-    }
-    flags
-}
-
 // 1 for a flag that was changed.
 fn mark(given: u32, flag: u32) -> u32
     ensures { λ r. ⌜ r ≡ changed given flag ⌝ }
@@ -137,7 +122,7 @@ fn tested(t: Table) -> Done
     let n = t.n;
     let bounds = forcing::test_table(t);
     let failing = forcing::lowest_failing(n, bounds);
-    let given = given_flags(t);
+    let given = forcing::flags_of(t);
     let recs = records(n, given, given, bounds);
     if failing == 0 {
         Done {
@@ -168,7 +153,7 @@ fn forced(t: Table) -> Done
     if failing != 0 {
         return refused(14, failing, passes);
     }
-    let given = given_flags(t);
+    let given = forcing::flags_of(t);
     let recs = records(n, given, flags, bounds);
     let count = count_changed(n, given, flags);
     let answer = Answer::Accepted {

@@ -2,7 +2,7 @@
 //
 // What does not depend on the length is worked out once for a task (`search_of`). The search then
 // evaluates one formula for all four kinds of sum (`evaluate`), and goes on from a length that fails at the
-// next one that can satisfy the line (`advance`).
+// next one that can satisfy the line (`jump::advance`).
 mod jump;
 mod numbers;
 

@@ -16,7 +16,7 @@ pub struct Forced {
 }
 
 // The flags of the table as sent.
-fn flags_of(t: Table) -> [u32; 32]
+pub fn flags_of(t: Table) -> [u32; 32]
     requires { ⌜ LegalTable t ⌝ }
     ensures { λ r. ⌜ r ≡ row (flagsOf t) ⌝ }
 {

@@ -3,7 +3,7 @@
 //
 // It holds the first 1,004 bytes of its input. The longest plan has 1,003, so a longer text is refused, and
 // by those bytes alone: every due line of at most 32 tasks lies within the first 1,003, and that a byte
-// follows the last line is seen from the 1,004th at the latest (`listing-first`, in the crate listing).
+// follows the last line is seen from the 1,004th at the latest (`listing-settled`, in the crate listing).
 // A failed read or write is told on standard error; a failed read gives no listing at all.
 ghost use Prim.Native.Nat.{_≤_};
 ghost use lib.ListN.{length};

@@ -29,8 +29,8 @@ returns c =
     })
     (c .before .if1 .taken)
 
-given-flags-requires : tie.Need-given-flags-requires
-given-flags-requires c κs = search needs
+flags-of-requires : tie.Need-flags-of-requires
+flags-of-requires c κs = search needs
 
 records-requires : tie.Need-records-requires
 records-requires c κs = search needs
@@ -49,7 +49,7 @@ returns-2 c =
       low = c .before .before .before .before .lowest-failing .ensures;
     })
     (c .before .before .before .before .before .before .before .before .pre .count)
-    (c .before .before .given-flags .result) (c .before .before .given-flags .ensures)
+    (c .before .before .flags-of .result) (c .before .before .flags-of .ensures)
     (c .before .records .result) (c .count-changed .result) (c .before .records .ensures)
     (c .count-changed .ensures)
     (c .before .before .before .if1 .left)
@@ -62,7 +62,7 @@ forced-spec =
     lowest-failing-requires
     refused-requires
     returns
-    given-flags-requires
+    flags-of-requires
     records-requires
     count-changed-requires
     returns-2)

@@ -12,8 +12,8 @@ test-table-requires c κs = search needs
 lowest-failing-requires : tie.Need-lowest-failing-requires
 lowest-failing-requires c κs = search needs
 
-given-flags-requires : tie.Need-given-flags-requires
-given-flags-requires c κs = search needs
+flags-of-requires : tie.Need-flags-of-requires
+flags-of-requires c κs = search needs
 
 records-requires : tie.Need-records-requires
 records-requires c κs = search needs
@@ -23,7 +23,7 @@ unfolding lowest
 returns c =
     test-yes (c .before .before .before .before .before .args .t)
     (c .before .before .before .before .before .pre .count)
-    (c .before .before .given-flags .result) (c .before .before .given-flags .ensures)
+    (c .before .before .flags-of .result) (c .before .before .flags-of .ensures)
     (c .before .before .before .before .test-table .result)
     (c .before .before .before .lowest-failing .result)
     (c .before .records .result) (c .before .before .before .before .test-table .ensures)
@@ -34,7 +34,7 @@ unfolding lowest
 returns-2 c =
     test-no (c .before .before .before .before .before .args .t)
     (c .before .before .before .before .before .pre .count)
-    (c .before .before .given-flags .result) (c .before .before .given-flags .ensures)
+    (c .before .before .flags-of .result) (c .before .before .flags-of .ensures)
     (c .before .before .before .before .test-table .result)
     (c .before .before .before .lowest-failing .result)
     (c .before .records .result) (c .before .before .before .before .test-table .ensures)
@@ -46,7 +46,7 @@ tested-spec =
     (tie.spec
     test-table-requires
     lowest-failing-requires
-    given-flags-requires
+    flags-of-requires
     records-requires
     returns
     returns-2)
