@@ -1,5 +1,5 @@
-/* stack.c: how much stack one call of the archive takes. A thread runs the call on a stack that was filled with a
- * pattern; what the call overwrote is counted, less what a thread that does nothing overwrites. */
+/* stack.c: how much stack one call of the archive takes. A thread runs the call on a stack that was filled
+ * with a pattern; what the call overwrote is counted, less what a thread that does nothing overwrites. */
 #include <pthread.h>
 #include <stdio.h>
 #include <stdlib.h>

@@ -1,6 +1,7 @@
 #!/bin/sh
 # stack.sh: how many bytes of stack the archive and the printer take, on small and on the largest plans.
-# The archive by a painted stack (stack.c), the printer as a whole, with the start of its process, by valgrind's massif.
+# The archive by a painted stack (stack.c); the printer as a whole, with the start of its process, by valgrind's
+# massif.
 set -eu
 cd -- "$(dirname -- "$0")/.."
 cc -O2 -Wall -Wextra -Werror -Iinclude bench/stack.c target/staticlib/libeskihrum.a -lpthread -o target/stack
@@ -9,8 +10,8 @@ out=$(mktemp)
 trap 'rm -f "$out"' EXIT
 
 printer() {
-    valgrind --tool=massif --stacks=yes --max-snapshots=1000 --massif-out-file="$out" target/bin/plan_printer \
-        <"$1" >/dev/null 2>&1 || true
+    valgrind --tool=massif --stacks=yes --max-snapshots=1000 --massif-out-file="$out" \
+        target/bin/plan_printer <"$1" >/dev/null 2>&1 || true
     awk -F= '/^mem_stacks_B/ { if ($2 > most) most = $2 } END { print most }' "$out"
 }
 

@@ -1,6 +1,6 @@
 #!/bin/sh
-# archive.sh: the archive for C and Rust. Builds it, runs the C example and the wrapper's tests, which compare the
-# archive with the second program on some hundred thousand calls.
+# archive.sh: the archive for C and Rust. Builds it, runs the C example and the wrapper's tests, which compare
+# the archive with the second program on some hundred thousand calls.
 set -eu
 cd -- "$(dirname -- "$0")/.."
 rt staticlib eskihrum >target/staticlib.log 2>&1 || { tail -n 20 target/staticlib.log; exit 1; }

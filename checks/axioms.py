@@ -1,8 +1,9 @@
 #!/usr/bin/env python3
 """axioms.py: what each crate's check assumes, from the last lines that rt kept of it.
 
-A library crate of this repository assumes nothing; a program assumes the contracts of the C functions that it
-calls. Prints a line for each crate, and exits with 1 where a library crate has an axiom or a crate was not proved.
+A library crate of this repository assumes nothing; a program assumes the contracts of the C functions that
+it calls. Prints a line for each crate, and exits with 1 where a library crate has an axiom or a crate was not
+proved.
 """
 import pathlib
 import re
@@ -12,7 +13,7 @@ ROOT = pathlib.Path(__file__).resolve().parent.parent
 
 
 def last_line(name):
-    """The last line of the crate's check; a check of an unchanged crate leaves it in the older of the two logs."""
+    """The last line of the crate's check; where the crate was unchanged it stands in the older log."""
     for kind in ("out", "say"):
         log = ROOT / "target" / "log" / f"{name}.{kind}"
         said = re.findall(r"^logic=\S.*$", log.read_text(encoding="utf-8") if log.is_file() else "", re.M)

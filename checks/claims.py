@@ -9,6 +9,7 @@ import re
 import sys
 
 ROOT = pathlib.Path(__file__).resolve().parent.parent
+FOLDERS = "docs|crates|checks|examples|corpus|second|rust|bench|include|tools"
 
 
 def rows(text):
@@ -30,7 +31,8 @@ def claimed():
         source = file.read_text(encoding="utf-8")
         for theorem in theorems:
             count += 1
-            if not re.search(rf"^ *(?:unfoldable |abbrev )?pub (?:record |data )?{re.escape(theorem)}(?=[ :])", source, re.M):
+            declared = rf"^ *(?:unfoldable |abbrev )?pub (?:record |data )?{re.escape(theorem)}(?=[ :])"
+            if not re.search(declared, source, re.M):
                 yield f"docs/CLAIMS.md:{number}: {path} has no public {theorem}"
     if not count:
         yield "docs/CLAIMS.md: no row names a theorem"
@@ -48,7 +50,7 @@ def linked():
     """Paths in backquotes or links of the papers, where they look like files of this repository."""
     for paper in [ROOT / "README.md", *sorted((ROOT / "docs").glob("*.md"))]:
         for number, line in enumerate(paper.read_text(encoding="utf-8").splitlines(), 1):
-            for path in re.findall(r"[`(]((?:docs|crates|checks|examples|corpus|second|rust|bench)/[\w/.+-]+)[`)]", line):
+            for path in re.findall(rf"[`(]((?:{FOLDERS})/[\w/.+-]+)[`)]", line):
                 if not (ROOT / path).exists():
                     yield f"{paper.relative_to(ROOT)}:{number}: there is no {path}"
 

@@ -1,8 +1,9 @@
 #!/usr/bin/env python3
 """readme.py: what README.md and the docs show is what happens.
 
-In each block that opens with ```console, a line "$ COMMAND" is run by sh at the root of the repository, and what
-follows it, up to the next "$" or the end of the block, has to be what it writes. The gate itself is not run here.
+In each block that opens with ```console, a line "$ COMMAND" is run by sh at the root of the repository, and
+what follows it, up to the next "$" or the end of the block, has to be what it writes. The gate itself is not
+run here.
 """
 import pathlib
 import re

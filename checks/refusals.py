@@ -1,8 +1,9 @@
 #!/usr/bin/env python3
-"""refusals.py: every refusal has a row in docs/REFUSALS.md, an example that gets it and an edit that shows it.
+"""refusals.py: every refusal has a row in docs/REFUSALS.md, an example that gets it, an edit that shows it.
 
-The example is a plan whose listing beside it starts with the number, or, for 13, which no text alone can get, a
-program that calls the planner. The edit is a must-fail edit of a crate. `./plan --explain N` prints the row.
+The example is a plan whose listing beside it starts with the number, or, for 13, which no text alone can get,
+a program that calls the planner. The edit is a must-fail edit of a crate. `./plan --explain N` prints the
+row.
 """
 import pathlib
 import re
@@ -38,7 +39,8 @@ def faults():
                 yield f"refusal {number}: {cells[4]} gets '{listing.strip()}'"
         if not edit.is_file() or edit.suffix != ".edit":
             yield f"refusal {number}: there is no {cells[5]}"
-        told = subprocess.run([ROOT / "plan", "--explain", str(number)], capture_output=True, text=True, check=False)
+        asked = [ROOT / "plan", "--explain", str(number)]
+        told = subprocess.run(asked, capture_output=True, text=True, check=False)
         if told.returncode != 0 or cells[1] not in told.stdout:
             yield f"refusal {number}: plan --explain does not print its row"
 

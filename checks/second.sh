@@ -1,6 +1,6 @@
 #!/bin/sh
-# second.sh: the second program's own tests. They hold the stored plans, listings and batches to what it writes, and
-# show that each wrong planner and each wrong reader is caught by a stored plan.
+# second.sh: the second program's own tests. They hold the stored plans, listings and batches to what it
+# writes, and show that each wrong planner and each wrong reader is caught by a stored plan.
 set -eu
 cd -- "$(dirname -- "$0")/../second"
 mkdir -p ../target

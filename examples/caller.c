@@ -1,5 +1,6 @@
-/* caller.c: the planner from C. Reads a plan from standard input, lends room for as many records as the first word
- * says (32 without one), and writes the answer. With room for fewer records than the plan has tasks it gets 13.
+/* caller.c: the planner from C. Reads a plan from standard input, lends room for as many records as the
+ * first word says (32 without one), and writes the answer. With room for fewer records than the plan has
+ * tasks it gets 13.
  *
  *     cc -Iinclude examples/caller.c target/staticlib/libeskihrum.a -o target/caller
  *     target/caller 1 < examples/b.plan

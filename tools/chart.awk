@@ -2,7 +2,8 @@
 # deadline's outline; a forced task is hatched. The listing's numbers stand beside the bars.
 # A line "task K F GIVEN bound B deadline D load L" has its fields at 2, 3, 4, 6, 8 and 10.
 function bar(y, width, height, class) {
-    printf "<rect class=\"%s\" x=\"%d\" y=\"%d\" width=\"%.1f\" height=\"%d\"/>\n", class, left, y, width, height
+    printf "<rect class=\"%s\" x=\"%d\" y=\"%d\" ", class, left, y
+    printf "width=\"%.1f\" height=\"%d\"/>\n", width, height
 }
 function words(x, y, class, text) {
     printf "<text class=\"%s\" x=\"%.1f\" y=\"%d\">%s</text>\n", class, x, y, text
@@ -17,7 +18,8 @@ $1 == "task" {
 END {
     left = 120; wide = 480; row = 26; top = 56
     height = top + n * row + 52
-    printf "<svg xmlns=\"http://www.w3.org/2000/svg\" viewBox=\"0 0 820 %d\" font-family=\"sans-serif\">\n", height
+    printf "<svg xmlns=\"http://www.w3.org/2000/svg\" font-family=\"sans-serif\" "
+    printf "viewBox=\"0 0 820 %d\">\n", height
     print "<style>text{font-size:12px;fill:#222}.title{font-size:15px;font-weight:bold}.note{fill:#555}"
     print ".deadline{fill:none;stroke:#999}.bound{fill:#4a7ebb}.forced{fill:url(#hatch)}</style>"
     print "<defs><pattern id=\"hatch\" width=\"6\" height=\"6\" patternUnits=\"userSpaceOnUse\""
