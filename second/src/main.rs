@@ -4,9 +4,8 @@ mod commands {
     pub mod hunt;
     pub mod listing;
     pub mod listings;
-    pub mod plan_cases;
     pub mod plans;
-    pub mod reading_cases;
+    pub mod text_cases;
 }
 
 use std::path::Path;
@@ -14,8 +13,7 @@ use std::process::ExitCode;
 
 const USAGE: &str = "usage: second COMMAND
   listing              a plan on standard input, its listing on standard output
-  reading-cases DIR    writes DIR/stdin and DIR/stdout, the reading cases
-  plan-cases DIR       writes DIR/stdin and DIR/stdout, the plan cases
+  text-cases DIR       writes DIR/stdin and DIR/stdout, the reading cases and the plan cases
   plans ROOT           writes the plans of ROOT/examples and ROOT/corpus
   examples DIR         writes NAME.listing beside each NAME.plan of DIR
   hunt                 says which plans of the corpus give which wrong planner away
@@ -26,8 +24,7 @@ fn main() -> ExitCode {
     let words: Vec<&str> = words.iter().map(|word| word.as_str()).collect();
     let done = match words[..] {
         ["listing"] => commands::listing::run(),
-        ["reading-cases", dir] => commands::reading_cases::run(Path::new(dir)),
-        ["plan-cases", dir] => commands::plan_cases::run(Path::new(dir)),
+        ["text-cases", dir] => commands::text_cases::run(Path::new(dir)),
         ["plans", root] => commands::plans::run(Path::new(root)),
         ["examples", dir] => commands::listings::run(Path::new(dir)),
         ["hunt"] => commands::hunt::run(),

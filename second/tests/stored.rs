@@ -1,12 +1,12 @@
-//! The stored files of `examples`, `corpus` and the two batch programs are what this program writes, and the README
+//! The stored files of `examples`, `corpus` and the batch program are what this program writes, and the README
 //! tells the truth.
 
 use second::corpus::{bad, examples, good, Plan};
 use second::hand::case_d;
-use second::plan_cases::{self, expected};
+use second::plan_cases::expected;
 use second::wrong::{self, SAME, WRONG};
 use second::wrong_reading::SLIPS;
-use second::{batch, forcing, reading_cases, textbook};
+use second::{batch, forcing, textbook};
 use std::fs;
 use std::io::Write;
 use std::path::{Path, PathBuf};
@@ -38,18 +38,10 @@ fn plans_and_listings() {
 
 #[test]
 fn batches() {
-    let texts: Vec<Vec<u8>> = reading_cases::cases().into_iter().map(|case| case.text).collect();
-    let lines: String = texts.iter().map(|text| reading_cases::expected(text)).collect();
-    same_batch("reading_cases", &texts, &lines);
-    let texts = plan_cases::cases();
-    let listings: String = texts.iter().map(|text| expected(text)).collect();
-    same_batch("plan_cases", &texts, &listings);
-}
-
-fn same_batch(name: &str, texts: &[Vec<u8>], lines: &str) {
-    let dir = root().join("crates").join(name);
-    assert!(fs::read(dir.join("stdin")).unwrap() == batch::stream(texts), "{name}");
-    assert!(fs::read_to_string(dir.join("stdout")).unwrap() == lines, "{name}");
+    let dir = root().join("crates").join("text_cases");
+    let (bytes, lines) = batch::all();
+    assert!(fs::read(dir.join("stdin")).unwrap() == bytes);
+    assert!(fs::read_to_string(dir.join("stdout")).unwrap() == lines);
 }
 
 /// Every row of the README's table of wrong planners: the plan gives the wrong planner away.

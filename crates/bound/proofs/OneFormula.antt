@@ -3,16 +3,14 @@
 -- Assumes nothing.
 use Prim.Native.Nat.{ℕ, zero, suc, _+_, _*_, _-_, _/_, _≤_, min}
 use native.Mathlib.Omega.{arith}
-use native.Mathlib.Nat.{sub-zero, div-mul-le-self, mul-le-mul-left}
+use native.Mathlib.Nat.{div-mul-le-self, mul-le-mul-left}
 use mathlib.Core.Path.{_≡_, refl, ap, ap₂, _∙_}
 use mathlib.Core.Bool.{Bool, true, false}
 use lib.Dec.{ltb}
 use borrow.Author.Tests.{eq-eqb, ne-eqb}
 use Rattle.model.specs.Bound.{Policy, EDF, FP, System, workIn, W, E, share, block, byFlag, from}
 use Rattle.model.specs.Bound.{cap, shareOf, blockOf}
-use Rattle.table.specs.declared.Table.{Table}
-use Rattle.table.specs.Table.{taskAt, policyOf, systemOf}
-use Rattle.bound.specs.declared.Term.{Term}
+use Rattle.bound.specs.declared.terms.Term.{Term}
 use Rattle.bound.specs.Terms.{capFor, blockFor, termFor, shareIn, candidateIn, growthIn}
 
 pub share-one : (p : Policy) (fk fi : ℕ) (h : Bool) (w e q : ℕ) → q ≤ 1000000
@@ -28,22 +26,22 @@ share-one FP (suc _) zero false w e q small = omega arith
 share-one FP (suc _) (suc _) false w e q small = omega arith
 
 -- without a block there is no candidate, and under FP a candidate is not summed
-none : (w q x : ℕ) → min (min w 0) q - x ≡ 0
-none w q x = omega arith
+block-none : (w q x : ℕ) → min (min w 0) q - x ≡ 0
+block-none w q x = omega arith
 
-whole : (w b q : ℕ) → min (min w b) q - min (min w 0) q ≡ min (min w b) q
-whole w b q = omega arith
+block-whole : (w b q : ℕ) → min (min w b) q - min (min w 0) q ≡ min (min w b) q
+block-whole w b q = omega arith
 
 pub block-one : (p : Policy) (fk fi : ℕ) (h late : Bool) (w e c q : ℕ)
     → min (min w (blockFor p fk fi h late c)) q - min (min w (capFor p fk fi h e)) q
     ≡ block p fk fi h late w e c q
 unfolding block blockFor capFor
-block-one p (suc a) fi h late w e c q = none w q (min (min w (capFor p (suc a) fi h e)) q)
-block-one p zero (suc a) h late w e c q = none w q (min (min w (capFor p zero (suc a) h e)) q)
+block-one p (suc a) fi h late w e c q = block-none w q (min (min w (capFor p (suc a) fi h e)) q)
+block-one p zero (suc a) h late w e c q = block-none w q (min (min w (capFor p zero (suc a) h e)) q)
 block-one EDF zero zero h true w e c q = refl
-block-one EDF zero zero h false w e c q = none w q (min (min w e) q)
-block-one FP zero zero true late w e c q = none w q (min (min w 1000000) q)
-block-one FP zero zero false late w e c q = whole w (c - 1) q
+block-one EDF zero zero h false w e c q = block-none w q (min (min w e) q)
+block-one FP zero zero true late w e c q = block-none w q (min (min w 1000000) q)
+block-one FP zero zero false late w e c q = block-whole w (c - 1) q
 
 -- the jobs begun in a window of at most 2,000,000, all of them whole
 pub begun-small : (t c x : ℕ) → c ≤ t → c ≤ 1000000 → x ≤ 2000000
@@ -83,32 +81,27 @@ cap-first s fl k l low = go (fl k) low
     go (suc f) low = refl
 
 -- the term of task i for task k, under the flags fl
-abbrev pub termOf : Table → (ℕ → ℕ) → ℕ → ℕ → Term
-termOf t fl k i =
-    termFor (policyOf (t .policy)) (fl k) (taskAt (t .tasks) k .deadline) (fl i) (taskAt (t .tasks) i)
-    (ltb i k)
+abbrev pub termOf : System → (ℕ → ℕ) → ℕ → ℕ → Term
+termOf s fl k i =
+    termFor (s .policy) (fl k) (s .D k) (fl i) (s .T i) (s .C i) (s .D i) (s .S i) (s .higher k i)
 
-module _ (t : Table) (fl : ℕ → ℕ) (k l i : ℕ) where
-  pub own-share : i ≡ k → shareOf (systemOf t) fl k l i ≡ 0
+module _ (s : System) (fl : ℕ → ℕ) (k l i : ℕ) where
+  pub own-share : i ≡ k → shareOf s fl k l i ≡ 0
   unfolding shareOf
   own-share e = rw (eq-eqb i k e)
 
-  pub own-block : i ≡ k → blockOf (systemOf t) fl k l i ≡ 0
+  pub own-block : i ≡ k → blockOf s fl k l i ≡ 0
   unfolding blockOf
   own-block e = rw (eq-eqb i k e)
 
   module _ (other : i ≡ k → ⊥) where
-    pub term-share : cap (systemOf t) fl k l ≤ 1000000
-        → shareIn (termOf t fl k i) l (cap (systemOf t) fl k l) ≡ shareOf (systemOf t) fl k l i
+    pub term-share : cap s fl k l ≤ 1000000 → shareIn (termOf s fl k i) l (cap s fl k l) ≡ shareOf s fl k l i
     unfolding shareOf shareIn termFor W E
     term-share small =
-        rw (ne-eqb i k other)
-        (simp sub-zero (share-one (policyOf (t .policy)) (fl k) (fl i) (ltb i k) _ _ _ small))
+        rw (ne-eqb i k other) (share-one (s .policy) (fl k) (fl i) (s .higher k i) _ _ _ small)
 
-    pub term-block : candidateIn (termOf t fl k i) l (cap (systemOf t) fl k l) ≡ blockOf (systemOf t) fl k l i
+    pub term-block : candidateIn (termOf s fl k i) l (cap s fl k l) ≡ blockOf s fl k l i
     unfolding blockOf candidateIn shareIn termFor W E
     term-block =
         rw (ne-eqb i k other)
-        (simp sub-zero
-        (block-one (policyOf (t .policy)) (fl k) (fl i) (ltb i k)
-        (ltb (taskAt (t .tasks) k .deadline) (taskAt (t .tasks) i .deadline)) _ _ _ _))
+        (block-one (s .policy) (fl k) (fl i) (s .higher k i) (ltb (s .D k) (s .D i)) _ _ _ _)

@@ -14,10 +14,9 @@ use mathlib.Core.Bool.{Bool, true, false}
 use mathlib.Core.List.{List}
 use lib.Dec.{ltb}
 use Rattle.model.specs.Bound.{Policy, EDF, FP, workIn}
-use Rattle.model.specs.Forcing.{at}
-use Rattle.table.specs.declared.Task.{Task}
-use Rattle.bound.specs.declared.Term.{Term}
-use Rattle.bound.specs.declared.Part.{Part}
+use Rattle.base.specs.Rows.{at}
+use Rattle.bound.specs.declared.terms.Term.{Term}
+use Rattle.bound.specs.declared.terms.Part.{Part}
 
 -- the cap besides q, by policy, k's flag, i's flag, and whether i is higher than k; e = E(k,i)
 unfoldable pub capFor : Policy → ℕ → ℕ → Bool → ℕ → ℕ
@@ -41,14 +40,15 @@ blockFor EDF zero zero h false c = 0
 blockFor FP zero zero true late c = 0
 blockFor FP zero zero false late c = c - 1
 
--- the term of a task with flag fi, for a task with flag fk and deadline d
-unfoldable pub termFor : Policy → ℕ → ℕ → ℕ → Task → Bool → Term
-termFor p fk d fi t h = record {
-  period = t .period;
-  cost = t .cost;
-  reach = t .deadline - t .cost;
-  cap = capFor p fk fi h (d / t .period * t .cost + min (t .cost) (d % t .period));
-  block = blockFor p fk fi h (ltb d (t .deadline)) (t .cost);
+-- the term of a task with flag fi and these T, C, D and slack, for a task with flag fk and deadline due; h:
+-- it is higher
+unfoldable pub termFor : Policy → ℕ → ℕ → ℕ → ℕ → ℕ → ℕ → ℕ → Bool → Term
+termFor p fk due fi T C D S h = record {
+  period = T;
+  cost = C;
+  reach = D - S - C;
+  cap = capFor p fk fi h (due / T * C + min C (due % T - S));
+  block = blockFor p fk fi h (ltb due D) C;
 }
 
 -- what a term adds at length l, with q

@@ -1,37 +1,20 @@
 // The bound of one task: the least length that satisfies its line.
 //
-// What does not depend on the length is worked out once for a task (`search_of`). The search then
-// evaluates one formula for all four kinds of sum (`evaluate`), and goes on from a length that fails at the
-// next one that can satisfy the line (`jump::advance`).
-mod jump;
-mod numbers;
+// What does not depend on the length is worked out once for a task (`search_of`), which alone knows the
+// table. The search then evaluates one formula for all four kinds of sum (`evaluate`), and goes on from a
+// length that fails at the next one that can satisfy the line (`jump::advance`).
+mod terms;
 
 ghost use mathlib.Core.Path.{_≡_};
-ghost use Prim.Native.Nat.{_+_, _-_, _*_, _/_, _≤_, _<_};
-ghost use Rattle.model.specs.Bound.{byFlag, leastLength, bound};
-ghost use Rattle.model.specs.Forcing.{at};
-ghost use Rattle.table.specs.Table.{policyOf, systemOf, LegalTask, LegalTable};
-ghost use Rattle.bound.specs.Terms.{capFor, blockFor, termFor, PartOf, termAt, SoundTerm};
-ghost use Rattle.bound.specs.Sums.{Summable, EvaluatedAt, SearchOf};
+ghost use Prim.Native.Nat.{_+_, _-_, _*_, _<_};
+ghost use Rattle.model.specs.Bound.{byFlag, bound};
+ghost use Rattle.table.specs.Table.{systemOf, LegalTable};
+ghost use Rattle.flags.specs.Flags.{flagIn};
+ghost use Rattle.bound.specs.Terms.{termAt};
+ghost use Rattle.bound.specs.Sums.{Summable, EvaluatedAt, SoundSearch, leastIn, SearchOf};
+use crate::terms::Term;
+use flags::Flags;
 use table::Table;
-use table::Task;
-
-// What another task brings to the sum, apart from the length.
-struct Term {
-    period: u32,
-    cost: u32,
-    reach: u32,
-    cap: u32,
-    block: u32,
-}
-
-// What a term adds at one length, what it puts up as a candidate, and how far its share is sure to grow from
-// there, by one with each length.
-struct Part {
-    share: u32,
-    candidate: u32,
-    growth: u32,
-}
 
 // The whole sum at one length, with the growth of each share.
 struct Evaluated {
@@ -53,70 +36,6 @@ struct Search {
     block: [u32; 32],
 }
 
-// The cap of a share besides q: none is 1,000,000, since q is never larger.
-fn cap_of(policy: u32, fk: u32, fi: u32, higher: bool, e: u32) -> u32
-    ensures { λ r. ⌜ r ≡ capFor (policyOf policy) fk fi higher e ⌝ }
-{
-    if policy == 0 {
-        if fk == 0 {
-            return e;
-        }
-        if fi == 0 {
-            return 1000000;
-        }
-        return e;
-    }
-    if higher {
-        return 1000000;
-    }
-    if fk == 0 {
-        return 0;
-    }
-    if fi == 0 {
-        return 1000000;
-    }
-    0
-}
-
-// What a candidate is capped by besides q, and 0 for a task that is none.
-fn block_of(policy: u32, fk: u32, fi: u32, higher: bool, late: bool, cost: u32) -> u32
-    requires { ⌜ 1 ≤ cost ⌝ }
-    ensures { λ r. ⌜ r ≡ blockFor (policyOf policy) fk fi higher late cost ⌝ }
-{
-    if fk != 0 {
-        return 0;
-    }
-    if fi != 0 {
-        return 0;
-    }
-    if policy == 0 {
-        if late {
-            return cost - 1;
-        }
-        return 0;
-    }
-    if higher {
-        return 0;
-    }
-    cost - 1
-}
-
-// The term of a task, for a task with flag fk and this deadline.
-fn term_of(policy: u32, fk: u32, deadline: u32, fi: u32, task: Task, higher: bool) -> Term
-    requires { ⌜ (LegalTask task) × (deadline ≤ 1000000) ⌝ }
-    ensures { λ r. ⌜ r ≡ termFor (policyOf policy) fk deadline fi task higher ⌝ }
-{
-    let e = numbers::edf_cap(deadline, task.period, task.cost);
-    let late = deadline < task.deadline;
-    Term {
-        period: task.period,
-        cost: task.cost,
-        reach: task.deadline - task.cost,
-        cap: cap_of(policy, fk, fi, higher, e),
-        block: block_of(policy, fk, fi, higher, late, task.cost),
-    }
-}
-
 // The first length to try.
 fn first_of(fk: u32, cost: u32) -> u32
     ensures { λ r. ⌜ r ≡ byFlag fk 1 cost ⌝ }
@@ -124,14 +43,15 @@ fn first_of(fk: u32, cost: u32) -> u32
     if fk == 0 { 1 } else { cost }
 }
 
-// The search of task k. A term that adds nothing at any length is left out.
-fn search_of(t: Table, flags: [u32; 32], k: usize) -> Search
+// The search of task k of a table: no task has a slack, and an earlier place is a higher priority. A term
+// that adds nothing at any length is left out.
+fn search_of(t: Table, flags: Flags, k: usize) -> Search
     requires { ⌜ (LegalTable t) × (k < t .n) ⌝ }
-    ensures { λ r. ⌜ SearchOf (systemOf t) (at flags) k r ⌝ }
+    ensures { λ r. ⌜ SearchOf (systemOf t) (flagIn flags) k r ⌝ }
 {
     let n = t.n;
     let own = t.tasks[k];
-    let fk = flags[k];
+    let fk = flags::flag_at(flags, k);
     let mut period = [0u32; 32];
     let mut cost = [0u32; 32];
     let mut reach = [0u32; 32];
@@ -141,7 +61,19 @@ fn search_of(t: Table, flags: [u32; 32], k: usize) -> Search
     let mut i: usize = 0;
     while i < n {
         if i != k {
-            let term = term_of(t.policy, fk, own.deadline, flags[i], t.tasks[i], i < k);
+            let fi = flags::flag_at(flags, i);
+            let task = t.tasks[i];
+            let term = terms::term_of(
+                t.policy,
+                fk,
+                own.deadline,
+                fi,
+                task.period,
+                task.cost,
+                task.deadline,
+                0,
+                i < k,
+            );
             let most = numbers::largest_of(term.cap, term.block);
             if most != 0 {
                 period[used] = term.period;
@@ -154,33 +86,17 @@ fn search_of(t: Table, flags: [u32; 32], k: usize) -> Search
         }
         i += 1;
     }
+    let lengths = own.deadline - own.cost + 1;
     Search {
         cores: t.cores,
         first: first_of(fk, own.cost),
-        lengths: own.deadline - own.cost + 1,
+        lengths: lengths,
         used: used,
         period: period,
         cost: cost,
         reach: reach,
         cap: cap,
         block: block,
-    }
-}
-
-// What a term adds at length l, and how that grows.
-fn part_of(term: Term, l: u32, q: u32) -> Part
-    requires { ⌜ (SoundTerm term) × (l ≤ 1000000) ⌝ }
-    ensures { λ r. ⌜ PartOf term l q r ⌝ }
-{
-    let x = l + term.reach;
-    let w = numbers::work(term.period, term.cost, x);
-    let share = numbers::least_of(numbers::least_of(w, term.cap), q);
-    let most = numbers::least_of(numbers::least_of(w, term.block), q);
-    let full = numbers::least_of(x / term.period * term.cost + term.cost, term.cap);
-    Part {
-        share: share,
-        candidate: numbers::minus(most, share),
-        growth: numbers::minus(full, share),
     }
 }
 
@@ -229,7 +145,7 @@ fn evaluate<'a>(
     let mut i: usize = 0;
     while i < used {
         let term = term_in(period, cost, reach, cap, block, i);
-        let part = part_of(term, l, q);
+        let part = terms::part_of(term, l, q);
         sum += part.share;
         growth[i] = part.growth;
         if part.candidate != 0 {
@@ -244,14 +160,13 @@ fn evaluate<'a>(
     }
 }
 
-// The least length that satisfies task k's line, or 0. The line first + ⌊sum / m⌋ ≤ l holds exactly if
-// sum < m × q, so it needs no division. The sum grows at least as its shares must, so the search goes on
-// at the first length at which that much growth leaves the line true.
-fn first_length(t: Table, flags: [u32; 32], k: usize) -> u32
-    requires { ⌜ (LegalTable t) × (k < t .n) ⌝ }
-    ensures { λ r. ⌜ r ≡ leastLength (systemOf t) (at flags) k ⌝ }
+// The least length that satisfies the line, or 0. The line first + ⌊sum / m⌋ ≤ l holds exactly if sum < m ×
+// q, so it needs no division. The sum grows at least as its shares must, so the search goes on at the first
+// length at which that much growth leaves the line true.
+fn first_length(s: Search) -> u32
+    requires { ⌜ SoundSearch s ⌝ }
+    ensures { λ r. ⌜ r ≡ leastIn s ⌝ }
 {
-    let s = search_of(t, flags, k);
     let m = s.cores;
     let cores = m as usize;
     let first = s.first;
@@ -283,15 +198,16 @@ fn first_length(t: Table, flags: [u32; 32], k: usize) -> u32
 }
 
 // The bound of task k under these flags, and 0 where it has none.
-pub fn bound_of(t: Table, flags: [u32; 32], k: usize) -> u32
+pub fn bound_of(t: Table, flags: Flags, k: usize) -> u32
     requires { ⌜ (LegalTable t) × (k < t .n) ⌝ }
-    ensures { λ r. ⌜ r ≡ bound (systemOf t) (at flags) k ⌝ }
+    ensures { λ r. ⌜ r ≡ bound (systemOf t) (flagIn flags) k ⌝ }
 {
-    let l = first_length(t, flags, k);
+    let s = search_of(t, flags, k);
+    let l = first_length(s);
     if l == 0 {
         return 0;
     }
-    let fk = flags[k];
+    let fk = flags::flag_at(flags, k);
     if fk != 0 {
         return l;
     }

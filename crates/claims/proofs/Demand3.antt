@@ -10,30 +10,34 @@ use mathlib.Core.List.{List}
 use lib.ListN.{length}
 use lib.Dec.{eqb}
 use borrow.Author.Tests.{eqb-true, eqb-false}
-use Rattle.model.specs.Sums.{pick}
+use Rattle.base.specs.Choice.{pick}
 use Rattle.model.specs.Bound.{bound}
-use Rattle.model.specs.Forcing.{at, force, lowest}
-use Rattle.model.specs.Demands.{Passes, Settled, Holds, Steps}
+use Rattle.base.specs.Rows.{at}
+use Rattle.model.specs.Forcing.{force, lowest}
+use Rattle.model.specs.Demands.{Passes, Settled, Holds}
 use Rattle.model.proofs.BoundLaws.{bound-same}
 use Rattle.model.proofs.ForcingLaws.{confluent}
-use Rattle.model.proofs.DemandLaws.{forced-settled, forced-least, forced-falls, refused, accepted}
-use Rattle.model.proofs.OrderLaws.{Reaches, ends-forced, forced-reached}
+use Rattle.model.proofs.DemandLaws.{forced-settled, forced-least, forced-falls, refused-final}
+use Rattle.model.proofs.DemandLaws.{accepted-passes}
+use Rattle.model.proofs.StepLaws.{Reaches, ends-forced, forced-reached}
 use Rattle.table.specs.declared.Table.{Table}
-use Rattle.table.specs.declared.Checked.the-variants.{Fine}
 use Rattle.table.specs.Table.{LegalTable, systemOf, flagsOf}
-use Rattle.answer.specs.declared.Answer.{Answer}
-use Rattle.answer.specs.declared.Answer.the-variants.{Accepted, Refused}
-use Rattle.answer.specs.declared.Job.the-variants.{Force}
-use Rattle.answer.specs.declared.Record.{Record}
-use Rattle.answer.specs.Records.{recordAt, changed}
-use Rattle.answer.specs.Ways.{Way, faulty, full, sent, ended, final}
-use Rattle.answer.specs.Ways as ways
-use Rattle.claims.specs.Calls.{Call, Answered, Sends}
+use Rattle.planner.specs.declared.Answer.{Answer}
+use Rattle.planner.specs.declared.Job.the-variants.{Force}
+use Rattle.planner.specs.declared.Record.{Record}
+use Rattle.flags.specs.Flags.{changed}
+use Rattle.planner.specs.Answers.{given, refused, valuesOf, recordAt}
+use Rattle.planner.specs.Done.{sent, ended}
+use Rattle.planner.specs.Ways.{Verdicts, forced-yes, fourteen}
+use Rattle.planner.specs.Calls.{Call, Answered, Sends}
 use Rattle.claims.specs.Demand2.{flagsIn}
-use Rattle.claims.specs.Demand3.{Ends, Agree, OrderFree, StepsEnd, AcceptedOrFourteen, GivenOut}
+use Rattle.claims.specs.Demand3.{OrderFree, StepsEnd, AcceptedOrFourteen, GivenOut}
 use Rattle.claims.specs.Demand3.{AcceptedIsLeast, RefusedIsFinal}
-use Rattle.claims.proofs.CallLaws.{sends-legal}
-use Rattle.claims.proofs.Demand2.{timed, flagged, way, forced-at, forced-flag, forced-way}
+use Rattle.planner.proofs.CallLaws.{sends-legal}
+use Rattle.planner.proofs.StageLaws.{timed, flagged}
+use Rattle.base.proofs.OrderLaws.{le-or-lt}
+use Rattle.claims.proofs.Demand1.{room-refused}
+use Rattle.claims.proofs.Demand2.{verdict, forced-record, forced-flag, forced-verdict}
 
 pub order-free : OrderFree
 order-free c t s g h x y i l =
@@ -65,15 +69,13 @@ steps-end c t s =
     agree : (r : Reaches (systemOf t) (at (flagsOf t)) (ended t)) (i : ℕ) → i < t .n → r .flags i ≡ ended t i
     agree r i l = r .agree i l
 
-two-ways : {t : Table} {room : ℕ} {a : Answer} → Way Fine t room Force a → t .n ≤ room
-    → ((f : ℕ) × ((p : ℕ) × (a ≡ Accepted f p))) ⊎ ((k : ℕ) × ((p : ℕ) × (a ≡ Refused 14 k p)))
-two-ways (faulty e) room = absurd (let z : _≡_ {A = ℕ} 0 1 = cc in omega arith)
-two-ways (full e small) room = absurd (let z : ⊥ = omega arith in z)
-two-ways (ways.accepted e r pass) room = inl (_, (_, refl))
-two-ways (ways.refused e r l none before) room = inr (_, (_, refl))
+two-ways : {t : Table} {a : Answer} → Verdicts t Force a
+    → ((f : ℕ) × ((p : ℕ) × (a ≡ given true f p))) ⊎ ((k : ℕ) × ((p : ℕ) × (a ≡ refused 14 k p)))
+two-ways (forced-yes pass) = inl (_, (_, refl))
+two-ways (fourteen l none before) = inr (_, (_, refl))
 
 pub accepted-or-fourteen : AcceptedOrFourteen
-accepted-or-fourteen c t s old room a new h = two-ways (way s Force old h) room
+accepted-or-fourteen c t s old room a new h = two-ways (verdict s Force old room h)
 
 -- a mark says that the flag was changed
 marked-changed : (x y : ℕ) → 0 < changed x y → x ≡ y → ⊥
@@ -92,10 +94,10 @@ unmarked-same x y none = go (eqb x y) refl none
     go true e p = eqb-true x y e
     go false e p = absurd (let z : ⊥ = omega arith in z)
 
-module _ {c : Call} {t : Table} (s : Sends c t) (old : List Record) {f p : ℕ} {new : List Record}
-    (h : Answered c Force old (Accepted f p) new) where
+module _ {c : Call} {t : Table} (s : Sends c t) (old : List Record) (room : t .n ≤ length old) {f p : ℕ}
+    {new : List Record} (h : Answered c Force old (given true f p) new) where
   mark-at : (k : ℕ) → k < t .n → recordAt new k .forced ≡ changed (sent t k) (ended t k)
-  mark-at k l = ap (λ r. r .forced) (forced-at s old h k l)
+  mark-at k l = ap (λ r. r .forced) (forced-record s old room h k l)
 
   falls : Holds (systemOf t) (ended t) (sent t)
   falls = forced-falls (systemOf t) (timed (sends-legal s)) (flagsOf t) (flagged (sends-legal s))
@@ -120,13 +122,14 @@ module _ {c : Call} {t : Table} (s : Sends c t) (old : List Record) {f p : ℕ} 
     ends = λ g e i l.
         ends-forced (systemOf t) (timed (sends-legal s)) (flagsOf t) (flagged (sends-legal s)) g (e .0) (e .1)
         i l
-        ∙ sym (forced-flag s old h i l);
+        ∙ sym (forced-flag s old room h i l);
     passes =
-        passes-same (sends-legal s) (flagsIn new) (ended t) (forced-flag s old h) (forced-way s old h .2);
-    keeps = λ i l. omega (arith, forced-flag s old h i l, falls i l);
-    marked = λ k l pos. (marked k l pos .0, forced-flag s old h k l ∙ marked k l pos .1);
+        passes-same (sends-legal s) (flagsIn new) (ended t) (forced-flag s old room h)
+        (forced-verdict s old room h .2);
+    keeps = λ i l. omega (arith, forced-flag s old room h i l, falls i l);
+    marked = λ k l pos. (marked k l pos .0, forced-flag s old room h k l ∙ marked k l pos .1);
     unmarked = λ k l none.
-        forced-flag s old h k l ∙ sym (unmarked-same (sent t k) (ended t k) (sym (mark-at k l) ∙ none));
+        forced-flag s old room h k l ∙ sym (unmarked-same (sent t k) (ended t k) (sym (mark-at k l) ∙ none));
     least = λ g keep pass k l pos.
         let le : g k ≤ ended t k =
         forced-least (systemOf t) (timed (sends-legal s)) (flagsOf t) (flagged (sends-legal s)) g keep pass k
@@ -135,31 +138,37 @@ module _ {c : Call} {t : Table} (s : Sends c t) (old : List Record) {f p : ℕ} 
   }
 
 pub accepted-is-least : AcceptedIsLeast
-accepted-is-least c t s old room f p new h = given-out s old h
+accepted-is-least c t s old room f p new h = given-out s old room h
 
 -- a refusal 14 comes from a task that has no bound where forcing ends
-fourteen : {t : Table} {room k p : ℕ} → Way Fine t room Force (Refused 14 k p)
+fourteen-task : {t : Table} {k p : ℕ} → Verdicts t Force (refused 14 k p)
     → (j : ℕ) × ((j < t .n) × (bound (systemOf t) (ended t) j ≡ 0))
-fourteen (faulty e) = absurd (let z : _≡_ {A = ℕ} 0 1 = cc in omega arith)
-fourteen (ways.refused {k} e r l none before) = (k, (l, none))
+fourteen-task (fourteen {k} l none before) = (k, (l, none))
 
 pub refused-is-final : RefusedIsFinal
 refused-is-final c t s old k p new h g keep pass =
-    let w : _ = fourteen (way s Force old h) in
-    let legal : LegalTable t = sends-legal s in
-    refused (systemOf t) (timed legal) (flagsOf t) (flagged legal) (some legal w) g keep pass
+    ⊎-elim
+    (λ room.
+    refused-final (systemOf t) (timed legal) (flagsOf t) (flagged legal)
+    (some (fourteen-task (verdict s Force old room h))) g keep pass)
+    (λ short.
+    let e : refused 14 k p ≡ refused 13 0 0 = room-refused c t s Force old (refused 14 k p) new h short in
+    let z : _≡_ {A = ℕ} 14 13 = ap (λ a. valuesOf 0 a .number) e in omega arith)
+    (le-or-lt (t .n) (length old))
   where
-    some : LegalTable t → (j : ℕ) × ((j < t .n) × (bound (systemOf t) (ended t) j ≡ 0))
+    legal : LegalTable t
+    legal = sends-legal s
+
+    some : (j : ℕ) × ((j < t .n) × (bound (systemOf t) (ended t) j ≡ 0))
         → 0 < lowest (systemOf t) (force (systemOf t) (flagsOf t) .bounds)
-    some legal w =
+    some w =
         ⊎-elim
         (λ z.
         absurd
         (let y : ⊥ =
         omega (
           arith,
-          accepted (systemOf t) (timed legal) (flagsOf t) (flagged legal) z (w .0) (w .1 .0),
-          w .1
-              .1,
+          accepted-passes (systemOf t) (timed legal) (flagsOf t) (flagged legal) z (w .0) (w .1 .0),
+          w .1 .1,
         ) in y))
         (λ pos. pos) (eq-zero-or-pos _)

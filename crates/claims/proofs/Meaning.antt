@@ -1,24 +1,17 @@
 -- What a pass means, proved from the planner's promise and the theorem of the crate `schedule`.
 -- Assumes nothing.
 use Prim.Native.Nat.{ℕ, _<_}
-use native.Mathlib.Omega.{arith}
-use mathlib.Core.Path.{_≡_, refl, sym, ap, _∙_}
-use mathlib.Core.List.{List}
-use lib.ListN.{length}
+use mathlib.Core.Path.{_≡_, refl, ap}
 use Rattle.model.specs.Bound.{System, Legal, bound}
-use Rattle.model.specs.Forcing.{at}
-use Rattle.schedule.specs.Promise.{Promise, Kept}
+use Rattle.base.specs.Rows.{at}
+use Rattle.schedule.specs.Promise.{Promise}
 use Rattle.schedule.proofs.Sound.{sound-passing}
 use Rattle.table.specs.declared.Table.{Table}
-use Rattle.table.specs.declared.Checked.the-variants.{Fine}
 use Rattle.table.specs.Table.{LegalTable, systemOf, flagsOf}
-use Rattle.answer.specs.declared.Job.the-variants.{Test}
-use Rattle.answer.specs.Records.{recordAt}
-use Rattle.answer.proofs.ListLaws.{test-records}
 use Rattle.claims.specs.Demand2.{flagsIn, boundsIn}
 use Rattle.claims.specs.Meaning.{PassMeans, YesMeans}
-use Rattle.claims.proofs.CallLaws.{sends-legal}
-use Rattle.claims.proofs.Demand2.{list-is, forced-bound, test-is-least}
+use Rattle.planner.proofs.CallLaws.{sends-legal}
+use Rattle.claims.proofs.Demand2.{tested-record, forced-bound, test-is-least}
 use Rattle.claims.proofs.Demand3.{given-out}
 
 legal-system : {t : Table} → LegalTable t → Legal (systemOf t)
@@ -37,15 +30,13 @@ promise-same s fl R R′ same p x rules k a l = rw (same k l) (p x rules k a l)
 pub pass-means : PassMeans
 pass-means c t s old room f p new h =
     promise-same (systemOf t) (flagsIn new) (bound (systemOf t) (flagsIn new)) (boundsIn new)
-    (forced-bound s old h)
+    (forced-bound s old room h)
     (sound-passing (systemOf t) (flagsIn new) (legal-system (sends-legal s)) (λ k l. refl)
-    (given-out s old h .passes))
+    (given-out s old room h .passes))
 
 pub yes-means : YesMeans
 yes-means c t s old room new h =
     promise-same (systemOf t) (at (flagsOf t)) (bound (systemOf t) (at (flagsOf t))) (boundsIn new)
-    (λ k l.
-    ap (λ rs. recordAt rs k .bound) (list-is s Test old h)
-    ∙ ap (λ r. r .bound) (test-records Fine t (length old) refl room (sends-legal s .count) old k l))
+    (λ k l. ap (λ r. r .bound) (tested-record s old room h k l))
     (sound-passing (systemOf t) (at (flagsOf t)) (legal-system (sends-legal s)) (λ k l. refl)
     (test-is-least c t s old room _ new h .yes .0 refl))

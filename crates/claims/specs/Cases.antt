@@ -1,19 +1,20 @@
 -- Document 01, "Sums done by hand": the marked cases a to l, each a call with the answer and the bounds that
 -- must come.
 -- Assumes nothing.
-use Prim.Native.Nat.{ℕ, zero, suc}
-use mathlib.Core.Bool.{Bool, true, false, _&&_}
+use Prim.Native.Nat.{ℕ}
+use mathlib.Core.Bool.{Bool, true, false, not, _&&_}
 use mathlib.Core.List.{List, [], _∷_, map}
 use lib.ListN.{take}
 use lib.Dec.{eqb}
+use Rattle.base.specs.Choice.{pick}
 use Rattle.table.specs.declared.Task.{Task}
-use Rattle.answer.specs.declared.Answer.{Answer}
-use Rattle.answer.specs.declared.Answer.the-variants.{Yes, No, Accepted, Refused}
-use Rattle.answer.specs.declared.Done.{Done}
-use Rattle.answer.specs.declared.Job.{Job}
-use Rattle.answer.specs.declared.Job.the-variants.{Test, Force}
-use Rattle.answer.specs.declared.Record.{Record}
-use Rattle.claims.specs.Calls.{Call, plan, tasks, doneOf}
+use Rattle.planner.specs.declared.Answer.{Answer}
+use Rattle.planner.specs.declared.Answer.the-variants.{Given, Refused}
+use Rattle.planner.specs.Answers.{given, refused}
+use Rattle.planner.specs.declared.Done.{Done}
+use Rattle.planner.specs.declared.Job.{Job}
+use Rattle.planner.specs.declared.Job.the-variants.{Test, Force}
+use Rattle.planner.specs.Calls.{Call, plan, tasks, doneOf}
 
 -- (T, C, D, flag), with 1 for P and 0 for N
 abbrev pub task : ℕ → ℕ → ℕ → ℕ → Task
@@ -26,11 +27,18 @@ pub record Case : Type 0 where
   pub answer : Answer
   pub bounds : List ℕ
 
-abbrev pub given : Call → Answer → List ℕ → Case
-given c a bs = record { call = c; job = Test; answer = a; bounds = bs }
+-- a test's yes and no
+abbrev pub saysYes : Answer
+saysYes = given true 0 0
 
-abbrev pub forced : Call → Answer → List ℕ → Case
-forced c a bs = record { call = c; job = Force; answer = a; bounds = bs }
+abbrev pub saysNo : Answer
+saysNo = given false 0 0
+
+abbrev pub testCase : Call → Answer → List ℕ → Case
+testCase c a bs = record { call = c; job = Test; answer = a; bounds = bs }
+
+abbrev pub forceCase : Call → Answer → List ℕ → Case
+forceCase c a bs = record { call = c; job = Force; answer = a; bounds = bs }
 
 -- one core, FP, as in a; D of task 1 and the flag of task 2 are parameters of c and d
 abbrev pub pair : ℕ → ℕ → ℕ → Call
@@ -44,39 +52,29 @@ alone f = tasks 1 0 (task 10 4 10 f ∷ [])
 
 unfoldable pub cases : List Case
 cases =
-    given (pair 1 12 1) No (4 ∷ 0 ∷ [])  -- a
-    ∷ forced (pair 1 12 1) (Accepted 2 3) (12 ∷ 17 ∷ [])  -- b
-    ∷ given (pair 1 11 1) Yes (4 ∷ 17 ∷ [])  -- c
-    ∷ forced (pair 1 11 0) (Refused 14 1 2) []  -- d
-    ∷ given (pair 0 12 1) No (0 ∷ 17 ∷ [])  -- e
-    ∷ forced (pair 0 12 1) (Refused 14 1 3) []  -- f
-    ∷ given (triple 2 20) Yes (4 ∷ 4 ∷ 20 ∷ [])  -- g
-    ∷ given (triple 2 19) No (4 ∷ 4 ∷ 0 ∷ [])  -- h
-    ∷ forced (triple 2 19) (Refused 14 2 4) []  -- i
-    ∷ given (triple 3 20) Yes (4 ∷ 4 ∷ 8 ∷ [])  -- j
-    ∷ given (alone 1) Yes (4 ∷ [])  -- k
-    ∷ given (alone 0) Yes (4 ∷ [])  -- k
-    ∷ forced (plan []) (Refused 1 1 0) []  -- l
+    testCase (pair 1 12 1) saysNo (4 ∷ 0 ∷ [])  -- a
+    ∷ forceCase (pair 1 12 1) (given true 2 3) (12 ∷ 17 ∷ [])  -- b
+    ∷ testCase (pair 1 11 1) saysYes (4 ∷ 17 ∷ [])  -- c
+    ∷ forceCase (pair 1 11 0) (refused 14 1 2) []  -- d
+    ∷ testCase (pair 0 12 1) saysNo (0 ∷ 17 ∷ [])  -- e
+    ∷ forceCase (pair 0 12 1) (refused 14 1 3) []  -- f
+    ∷ testCase (triple 2 20) saysYes (4 ∷ 4 ∷ 20 ∷ [])  -- g
+    ∷ testCase (triple 2 19) saysNo (4 ∷ 4 ∷ 0 ∷ [])  -- h
+    ∷ forceCase (triple 2 19) (refused 14 2 4) []  -- i
+    ∷ testCase (triple 3 20) saysYes (4 ∷ 4 ∷ 8 ∷ [])  -- j
+    ∷ testCase (alone 1) saysYes (4 ∷ [])  -- k
+    ∷ testCase (alone 0) saysYes (4 ∷ [])  -- k
+    ∷ forceCase (plan []) (refused 1 1 0) []  -- l
     ∷ []
 
 -- whether two answers, and two lists of numbers, are the same
 unfoldable pub sameAnswer : Answer → Answer → Bool
-sameAnswer Yes Yes = true
-sameAnswer Yes No = false
-sameAnswer Yes (Accepted f p) = false
-sameAnswer Yes (Refused n l p) = false
-sameAnswer No Yes = false
-sameAnswer No No = true
-sameAnswer No (Accepted f p) = false
-sameAnswer No (Refused n l p) = false
-sameAnswer (Accepted f p) Yes = false
-sameAnswer (Accepted f p) No = false
-sameAnswer (Accepted f p) (Accepted g q) = eqb f g && eqb p q
-sameAnswer (Accepted f p) (Refused n l q) = false
-sameAnswer (Refused n l p) Yes = false
-sameAnswer (Refused n l p) No = false
-sameAnswer (Refused n l p) (Accepted f q) = false
-sameAnswer (Refused n l p) (Refused m k q) = eqb n m && (eqb l k && eqb p q)
+sameAnswer (Given v) (Given w) =
+    (pick (v .yes) (w .yes) (not (w .yes))) && (eqb (v .forced) (w .forced) && eqb (v .passes) (w .passes))
+sameAnswer (Given v) (Refused why p) = false
+sameAnswer (Refused why p) (Given v) = false
+sameAnswer (Refused a p) (Refused b q) =
+    eqb (a .number) (b .number) && (eqb (a .place) (b .place) && eqb p q)
 
 unfoldable pub sameNumbers : List ℕ → List ℕ → Bool
 sameNumbers [] [] = true

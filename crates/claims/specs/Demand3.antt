@@ -1,26 +1,22 @@
 -- Demand 3. From any legal table, with room for its records, every sequence of forcing steps carried on until
--- none is
--- possible ends in the same flags. If every task then has a bound these flags are given out, and every
--- passing
--- assignment that keeps the given non-preemptive tasks also holds each task forced here. Otherwise the table
--- is
--- refused, and no such assignment passes.
--- Assumes nothing.
+-- none is possible ends in the same flags. If every task then has a bound these flags are given out, and
+-- every passing assignment that keeps the given non-preemptive tasks also holds each task forced here.
+-- Otherwise the table is refused, and no such assignment passes. Assumes nothing.
 use Prim.Native.Nat.{ℕ, _≤_, _<_}
 use mathlib.Core.Path.{_≡_}
+use mathlib.Core.Bool.{true}
 use mathlib.Core.Logic.{_⊎_}
 use mathlib.Core.List.{List}
 use lib.ListN.{length}
-use Rattle.model.specs.Forcing.{at}
+use Rattle.base.specs.Rows.{at}
 use Rattle.model.specs.Demands.{Passes, Settled, Holds, Steps}
 use Rattle.table.specs.declared.Table.{Table}
 use Rattle.table.specs.Table.{systemOf, flagsOf}
-use Rattle.answer.specs.declared.Answer.{Answer}
-use Rattle.answer.specs.declared.Answer.the-variants.{Accepted, Refused}
-use Rattle.answer.specs.declared.Job.the-variants.{Force}
-use Rattle.answer.specs.declared.Record.{Record}
-use Rattle.answer.specs.Records.{recordAt}
-use Rattle.claims.specs.Calls.{Call, Answered, Sends}
+use Rattle.planner.specs.declared.Answer.{Answer}
+use Rattle.planner.specs.declared.Job.the-variants.{Force}
+use Rattle.planner.specs.declared.Record.{Record}
+use Rattle.planner.specs.Answers.{given, refused, recordAt}
+use Rattle.planner.specs.Calls.{Call, Answered, Sends}
 use Rattle.claims.specs.Demand2.{flagsIn}
 
 -- g is where a sequence of steps from the table's own flags ends: no step is possible any more
@@ -43,7 +39,7 @@ StepsEnd = (c : Call) (t : Table) → Sends c t → (g : ℕ → ℕ) × Ends t 
 abbrev pub AcceptedOrFourteen : Type 0
 AcceptedOrFourteen = (c : Call) (t : Table) → Sends c t → (old : List Record) → t .n ≤ length old
     → (a : Answer) (new : List Record) → Answered c Force old a new
-    → ((f : ℕ) × ((p : ℕ) × (a ≡ Accepted f p))) ⊎ ((k : ℕ) × ((p : ℕ) × (a ≡ Refused 14 k p)))
+    → ((f : ℕ) × ((p : ℕ) × (a ≡ given true f p))) ⊎ ((k : ℕ) × ((p : ℕ) × (a ≡ refused 14 k p)))
 
 -- what is given out where it accepts
 pub record GivenOut (t : Table) (new : List Record) : Type 0 where
@@ -62,10 +58,10 @@ pub record GivenOut (t : Table) (new : List Record) : Type 0 where
 
 abbrev pub AcceptedIsLeast : Type 0
 AcceptedIsLeast = (c : Call) (t : Table) → Sends c t → (old : List Record) → t .n ≤ length old
-    → (f p : ℕ) (new : List Record) → Answered c Force old (Accepted f p) new → GivenOut t new
+    → (f p : ℕ) (new : List Record) → Answered c Force old (given true f p) new → GivenOut t new
 
 -- a refusal 14 is final: no assignment that keeps the given non-preemptive tasks passes
 abbrev pub RefusedIsFinal : Type 0
 RefusedIsFinal = (c : Call) (t : Table) → Sends c t → (old : List Record)
-    → (k p : ℕ) (new : List Record) → Answered c Force old (Refused 14 k p) new
+    → (k p : ℕ) (new : List Record) → Answered c Force old (refused 14 k p) new
     → (h : ℕ → ℕ) → Holds (systemOf t) h (at (flagsOf t)) → Passes (systemOf t) h → ⊥

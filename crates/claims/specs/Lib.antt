@@ -1,4 +1,3 @@
-pub mod Calls
 pub mod Demand1
 pub mod Demand2
 pub mod Demand3

@@ -1,30 +1,31 @@
 -- Records as numbers: one record is three stores, and records that are written one after the other make the
--- flat
--- answer. Assumes nothing.
+-- flat answer. Assumes nothing.
 use Prim.Native.Nat.{ℕ, zero, suc, _+_, _*_, _/_, _%_, _≤_, _<_}
 use native.Mathlib.Omega.{arith}
 use native.Mathlib.Numerals.{add-one}
-use mathlib.Core.Path.{_≡_, refl, sym, ap, _∙_}
-use mathlib.Core.List.{List, [], _∷_, _++_, append-assoc}
-use lib.ListN.{length, getD, take, drop, set, length-append, length-take}
+use mathlib.Core.Path.{_≡_, refl, ap, _∙_}
+use mathlib.Core.Bool.{Bool, true, false}
+use mathlib.Core.List.{List, [], _∷_, _++_}
+use lib.ListN.{length, take, drop, set}
 use lib.Seq.{take-suc}
-use lib.Dec.{eqb}
 use borrow.Author.Tests.{eq-eqb, ne-eqb}
-use Rattle.page.specs.Page.{Put}
-use Rattle.page.proofs.PageLaws.{put-none, put-one, put-then, put-start, put-length}
+use Rattle.buffer.specs.Put.{Put}
+use Rattle.buffer.proofs.PutLaws.{put-none, put-one, put-then, put-start, put-length}
 use Rattle.table.specs.declared.Task.{Task}
-use Rattle.table.specs.declared.Table.{Table}
-use Rattle.table.specs.Checks.{checkOf}
-use Rattle.lines.specs.Reads.{readOf}
-use Rattle.answer.specs.declared.Record.{Record}
-use Rattle.answer.specs.declared.Done.{Done}
-use Rattle.answer.specs.declared.Job.{Job}
-use Rattle.answer.specs.declared.Job.the-variants.{Test, Force}
-use Rattle.answer.specs.Records.{noRecord, recordAt}
-use Rattle.answer.specs.Done.{planDone, listDone, tableFrom}
-use Rattle.answer.proofs.CountLaws.{Small, done-counted}
+use Rattle.table.specs.declared.Refusal.{Refusal}
+use Rattle.planner.specs.declared.Record.{Record}
+use Rattle.planner.specs.declared.Verdict.{Verdict}
+use Rattle.planner.specs.declared.Answer.{Answer}
+use Rattle.planner.specs.declared.Answer.the-variants.{Given, Refused}
+use Rattle.planner.specs.declared.Done.{Done}
+use Rattle.planner.specs.declared.Job.{Job}
+use Rattle.planner.specs.declared.Job.the-variants.{Force}
+use Rattle.planner.specs.Answers.{noRecord, recordAt}
+use Rattle.planner.specs.Done.{planDone, listDone}
+use Rattle.planner.proofs.CountLaws.{Small}
 use Rattle.eskihrum.specs.Flat.{
   jobOf,
+  yesBit,
   codeOf,
   countIn,
   recordNumbers,
@@ -39,6 +40,21 @@ use Rattle.eskihrum.specs.Flat.{
 pub job-force : (j : ℕ) → (j ≡ 0 → ⊥) → Force ≡ jobOf j
 job-force zero h = absurd (h refl)
 job-force (suc j) h = refl
+
+pub yes-small : (b : Bool) {x : ℕ} → x ≡ yesBit b → x ≤ 4294967296
+unfolding yesBit
+yes-small true e = omega arith
+yes-small false e = omega arith
+
+-- the code of each case of an answer
+pub given-code : {a : Answer} {v : Verdict} {x : ℕ} → a ≡ Given v → x ≡ yesBit (v .yes)
+    → x + 16777216 * v .passes + 65536 * v .forced ≡ codeOf a
+given-code {a} {v} {x} e is = rw (e, is) (omega arith)
+
+pub refused-code : {a : Answer} {why : Refusal} {p : ℕ} → a ≡ Refused why p
+    → 16777216 * p + 256 * why .place + why .number ≡ codeOf a
+unfolding yesBit
+refused-code e = rw e (omega arith)
 
 pub count-whole : (x : ℕ) → x % 4 ≡ 0 → x / 4 ≡ countIn x
 count-whole x e = rw (eq-eqb (x % 4) 0 e)
@@ -116,25 +132,10 @@ module _ (d : Done) (old : List ℕ) where
             ∙ ap (λ n. numbersOf (take i (d .recs)) ++ drop n old) three
             ∙ ap (λ n. numbersOf (take n (d .recs)) ++ drop (3 * n) old) e
 
--- every answer has 32 records beside it
-abbrev pub Whole : Done → Type 0
-Whole d = length (d .recs) ≡ 32
-
-pub plan-whole : (text : List ℕ) (job : Job) (room : ℕ) → Whole (planDone text job room)
-unfolding planDone
-plan-whole text job room = done-counted (readOf text .answer) (readOf text .table) job room .long
-
-pub list-whole : (cores policy n : ℕ) (tasks : List Task) (job : Job) (room : ℕ)
-    → Whole (listDone cores policy n tasks job room)
-unfolding listDone
-list-whole cores policy n tasks job room =
-    let t : Table = tableFrom cores policy n tasks in
-    done-counted (checkOf t) t job room .long
-
 -- an answer's records are there, and the caller's numbers have room for them
-pub flat-fits : (len : ℕ) (d x : Done) → d ≡ x → Small (len / 3) x → Whole x
+pub flat-fits : (len : ℕ) (d x : Done) → d ≡ x → Small (len / 3) x
     → (3 * d .count ≤ len) × (d .count ≤ 32) × (length (d .recs) ≡ 32)
-flat-fits len d x e small whole = rw e (omega (arith, small .fits), small .few, whole)
+flat-fits len d x e small = rw e (omega (arith, small .fits), small .few, small .long)
 
 -- from the answer by value to the promises
 pub plan-coded : (job : ℕ) (text old : List ℕ) (r : ℕ) (new : List ℕ) (j : Job) (d : Done) → j ≡ jobOf job

@@ -3,7 +3,7 @@
 use Prim.Native.Nat.{ℕ}
 use mathlib.Core.Path.{_≡_, sym, _∙_}
 use mathlib.Core.List.{List}
-use Rattle.answer.specs.declared.Done.{Done}
+use Rattle.planner.specs.declared.Done.{Done}
 use Rattle.eskihrum.specs.Flat.{Coded, PlanCoded, TasksCoded}
 
 coded-only : (d : Done) (old : List ℕ) {r r′ : ℕ} {new new′ : List ℕ} → Coded d old r new

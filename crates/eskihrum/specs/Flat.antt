@@ -9,31 +9,34 @@
 -- Assumes nothing.
 use Prim.Native.Nat.{ℕ, zero, suc, _+_, _*_, _/_, _%_}
 use mathlib.Core.Path.{_≡_}
+use mathlib.Core.Bool.{Bool}
 use mathlib.Core.List.{List, [], _∷_, _++_}
 use lib.ListN.{length, take, drop}
 use lib.Dec.{eqb}
-use Rattle.model.specs.Sums.{pick}
-use Rattle.model.specs.Forcing.{at}
+use Rattle.base.specs.Choice.{pick}
+use Rattle.base.specs.Rows.{at, row}
 use Rattle.table.specs.Table.{noTask}
 use Rattle.table.specs.declared.Task.{Task}
-use Rattle.answer.specs.declared.Record.{Record}
-use Rattle.answer.specs.declared.Done.{Done}
-use Rattle.answer.specs.declared.Job.{Job}
-use Rattle.answer.specs.declared.Job.the-variants.{Test, Force}
-use Rattle.answer.specs.declared.Answer.{Answer}
-use Rattle.answer.specs.declared.Answer.the-variants.{Yes, No, Accepted, Refused}
-use Rattle.answer.specs.Records.{rowOf}
-use Rattle.answer.specs.Done.{planDone, listDone}
+use Rattle.planner.specs.declared.Record.{Record}
+use Rattle.planner.specs.declared.Done.{Done}
+use Rattle.planner.specs.declared.Job.{Job}
+use Rattle.planner.specs.declared.Job.the-variants.{Test, Force}
+use Rattle.planner.specs.declared.Answer.{Answer}
+use Rattle.planner.specs.Answers.{valuesOf}
+use Rattle.planner.specs.Done.{planDone, listDone}
 
 abbrev pub jobOf : ℕ → Job
 jobOf zero = Test
 jobOf (suc _) = Force
 
+unfoldable pub yesBit : Bool → ℕ
+yesBit b = pick b 4294967296 0
+
+-- by document 01's values of the answer
 abbrev pub codeOf : Answer → ℕ
-codeOf Yes = 4294967296
-codeOf No = 0
-codeOf (Accepted forced passes) = 4294967296 + 16777216 * passes + 65536 * forced
-codeOf (Refused number place passes) = 16777216 * passes + 256 * place + number
+codeOf a =
+    let v = valuesOf 0 a in
+    yesBit (v .yes) + 16777216 * v .passes + 65536 * v .forced + 256 * v .place + v .number
 
 abbrev pub recordNumbers : Record → List ℕ
 recordNumbers r = r .flag ∷ r .forced ∷ r .bound ∷ []
@@ -60,7 +63,7 @@ taskIn xs i = record {
 
 -- the first 32 tasks
 abbrev pub tasksIn : List ℕ → List Task
-tasksIn xs = rowOf noTask (taskIn xs) 32
+tasksIn xs = row noTask (taskIn xs) 32
 
 -- an answer in its one number, and the caller's numbers afterwards
 pub record Coded (d : Done) (old : List ℕ) (r : ℕ) (new : List ℕ) : Type 0 where

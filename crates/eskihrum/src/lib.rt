@@ -2,14 +2,15 @@
 ghost use mathlib.Core.Path.{_≡_};
 ghost use Prim.Native.Nat.{_+_, _*_, _≤_, _<_};
 ghost use lib.ListN.{length};
-ghost use Rattle.model.specs.Forcing.{at};
-ghost use Rattle.page.specs.Page.{Put};
-ghost use Rattle.eskihrum.specs.Flat.{jobOf, codeOf, recordNumbers, countIn, tasksIn, taskIn};
+ghost use Rattle.base.specs.Rows.{at};
+ghost use Rattle.buffer.specs.Put.{Put};
+ghost use Rattle.eskihrum.specs.Flat.{jobOf, yesBit, codeOf, recordNumbers, countIn, tasksIn, taskIn};
 ghost use Rattle.eskihrum.specs.Flat.{Coded, PlanCoded, TasksCoded};
-use answer::Answer;
-use answer::Done;
-use answer::Job;
-use answer::Record;
+use planner::Answer;
+use planner::Done;
+use planner::Job;
+use planner::Record;
+use table::NO_TASK;
 use table::Task;
 
 // 0 asks for the test, every other number for forcing.
@@ -19,21 +20,24 @@ fn job_of(job: u32) -> Job
     if job == 0 { Job::Test } else { Job::Force }
 }
 
+// Bit 32 for a yes.
+fn yes_bit(yes: bool) -> u64
+    ensures { λ r. ⌜ r ≡ yesBit yes ⌝ }
+{
+    if yes { 4294967296 } else { 0 }
+}
+
 // The parts of an answer in one number, a byte each.
 fn code_of(answer: Answer) -> u64
     ensures { λ r. ⌜ r ≡ codeOf answer ⌝ }
 {
     match answer {
-        Answer::Yes => 4294967296,
-        Answer::No => 0,
-        Answer::Accepted { forced, passes } => {
-            4294967296 + 16777216 * (passes as u64) + 65536 * (forced as u64)
+        Answer::Given(v) => {
+            yes_bit(v.yes) + 16777216 * (v.passes as u64) + 65536 * (v.forced as u64)
         }
-        Answer::Refused {
-            number,
-            place,
-            passes,
-        } => { 16777216 * (passes as u64) + 256 * (place as u64) + (number as u64) }
+        Answer::Refused { why, passes } => {
+            16777216 * (passes as u64) + 256 * (why.place as u64) + (why.number as u64)
+        }
     }
 }
 
@@ -72,13 +76,7 @@ fn task_in(s: &[u32], i: usize) -> Task
 fn tasks_in(s: &[u32]) -> [Task; 32]
     ensures { λ r. ⌜ r ≡ tasksIn (now (s .entry)) ⌝ }
 {
-    let none = Task {
-        flag: 0,
-        period: 0,
-        cost: 0,
-        deadline: 0,
-    };
-    let mut tasks = [none; 32];
+    let mut tasks = [NO_TASK; 32];
     let mut i: usize = 0;
     while i < 32 {
         tasks[i] = task_in(s, i);
@@ -119,7 +117,7 @@ pub extern "C" fn eskihrum_plan(job: u32, text: &[u8], records: &mut [u32]) -> u
     ensures { λ r. ⌜ PlanCoded job (now (text .entry)) (now (records .entry)) r (now (records .exit)) ⌝ }
 {
     let room = records.len() / 3;
-    let d = answer::plan_core(text, job_of(job), room);
+    let d = planner::plan_done(text, job_of(job), room);
     put_done(records, d)
 }
 
@@ -138,6 +136,6 @@ pub extern "C" fn eskihrum_tasks(
     let room = records.len() / 3;
     let n = count_in(tasks.len());
     let list = tasks_in(tasks);
-    let d = answer::list_core(cores, policy, n, list, job_of(job), room);
+    let d = planner::list_done(cores, policy, n, list, job_of(job), room);
     put_done(records, d)
 }

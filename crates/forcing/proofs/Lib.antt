@@ -1,4 +1,2 @@
-pub mod Counting
-pub mod Ends
-pub mod Lowest
+pub mod PassingLaws
 pub mod Unique

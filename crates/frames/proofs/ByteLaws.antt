@@ -1,23 +1,25 @@
--- A byte that is read is the byte as it is written: two digits that read as b are b's text, and the text of b
--- reads as b. The digit rule enters by two computed tests, `digit-there` and `digit-back`. Assumes nothing.
+-- A byte that is read is the byte as it is written: two digits that read as b are, raised, the text of b, and
+-- the text of b reads as b. The digit rule enters by two computed tests, `digit-there` and `digit-back`.
+-- Assumes nothing.
 use Prim.Native.Nat.{ℕ, _+_, _*_, _/_, _%_, _<_, _≤_}
 use native.Mathlib.Omega.{arith}
-use mathlib.Core.Path.{_≡_, refl, _∙_, ap, ap₂, subst}
+use mathlib.Core.Path.{_≡_, refl, sym, _∙_, ap, ap₂, subst}
 use mathlib.Core.Bool.{Bool, true, false}
 use mathlib.Core.List.{List, [], _∷_}
-use lib.Dec.{T, ltb, eqb, eqb→eq}
+use lib.Dec.{ltb, eqb}
 use lib.ListN.{getD, drop}
 use lib.Seq.{getD-drop}
-use borrow.Author.Tests.{lt-ltb, lt-leb, le-leb, ltb-true, ltb-false}
-use Rattle.model.specs.Sums.{pick}
-use Rattle.frames.specs.Digits.{digitOf, digitText, digitAt, byteAt, wordAt, Digits}
+use borrow.Author.Tests.{lt-ltb, lt-leb, le-leb, ltb-true, ltb-false, eqb-true}
+use Rattle.base.specs.Choice.{pick}
+use Rattle.frames.specs.Digits.{digitOf, digitText, raise, raised, digitAt, byteAt, wordAt, Digits}
 use Rattle.frames.specs.Text.{wordBytes}
-use Rattle.frames.proofs.TableLaws.{below-at}
-use Rattle.frames.proofs.DigitLaws.{WordBytes}
+use Rattle.frames.proofs.BelowLaws.{all-below}
+use Rattle.frames.proofs.DigitLaws.{WordBytes, raised-at}
 
+-- the two tests: digits read and written again, and written and read again
 back : ℕ → Bool
-unfolding digitText digitOf
-back b = pick (ltb (digitOf b) 16) (eqb (digitText (digitOf b)) b) true
+unfolding digitText digitOf raise
+back b = pick (ltb (digitOf b) 16) (eqb (digitText (digitOf b)) (raise b)) true
 
 there : ℕ → Bool
 unfolding digitText digitOf
@@ -25,7 +27,7 @@ there d = eqb (digitOf (digitText d)) d
 
 pub digit-there : (d : ℕ) → d < 16 → digitOf (digitText d) ≡ d
 unfolding there digitText digitOf
-digit-there d h = eqb→eq (digitOf (digitText d)) d (below-at there 16 tt d h)
+digit-there d h = eqb-true (digitOf (digitText d)) d (all-below there 16 refl d h)
 
 -- past F there is no digit
 past : (b : ℕ) → 71 ≤ b → digitOf b ≡ 255
@@ -39,15 +41,17 @@ past b h =
           (omega arith),
     )
 
-pub digit-back : (b : ℕ) → digitOf b < 16 → digitText (digitOf b) ≡ b
-unfolding back digitText digitOf
+-- a digit is written as its raised byte
+pub digit-back : (b : ℕ) → digitOf b < 16 → digitText (digitOf b) ≡ raise b
+unfolding back digitText digitOf raise
 digit-back b h = go (ltb b 71) refl
   where
-    go : (t : Bool) → ltb b 71 ≡ t → digitText (digitOf b) ≡ b
+    go : (t : Bool) → ltb b 71 ≡ t → digitText (digitOf b) ≡ raise b
     go true e =
-        eqb→eq (digitText (digitOf b)) b
-        (subst (λ (t : Bool). T (pick t (eqb (digitText (digitOf b)) b) true)) (lt-ltb (digitOf b) 16 h)
-        (below-at back 71 tt b (ltb-true b 71 e)))
+        eqb-true (digitText (digitOf b)) (raise b)
+        (subst (λ (t : Bool). pick t (eqb (digitText (digitOf b)) (raise b)) true ≡ true)
+        (lt-ltb (digitOf b) 16 h)
+        (all-below back 71 refl b (ltb-true b 71 e)))
     go false e = absurd (let z : ⊥ = omega (arith, past b (ltb-false b 71 e)) in z)
 
 -- a byte's text reads as the byte
@@ -64,19 +68,21 @@ byte-next s i =
     rw (getD-drop 2 s (2 * i) 0, getD-drop 2 s (2 * i + 1) 0)
     (ap₂ (λ (x y : ℕ). 16 * digitAt s x + digitAt s y) (omega arith) (omega arith))
 
--- two digits are the text of the byte that they read as
-pub high-back : (s : List ℕ) (i : ℕ) → Digits s (2 * i + 2) → digitText (byteAt s i / 16) ≡ getD s (2 * i) 0
-unfolding byteAt
-high-back s i d =
-    ap digitText (omega (arith, d (2 * i) (omega arith), d (2 * i + 1) (omega arith)))
-    ∙ digit-back (getD s (2 * i) 0) (d (2 * i) (omega arith))
+-- two digits, raised, are the text of the byte that they read as
+module _ (s : List ℕ) (i : ℕ) (d : Digits s (2 * i + 2)) where
+  pub high-back : digitText (byteAt s i / 16) ≡ getD (raised s) (2 * i) 0
+  unfolding byteAt
+  high-back =
+      ap digitText (omega (arith, d (2 * i) (omega arith), d (2 * i + 1) (omega arith)))
+      ∙ digit-back (getD s (2 * i) 0) (d (2 * i) (omega arith))
+      ∙ sym (raised-at s (2 * i))
 
-pub low-back : (s : List ℕ) (i : ℕ) → Digits s (2 * i + 2)
-    → digitText (byteAt s i % 16) ≡ getD s (2 * i + 1) 0
-unfolding byteAt
-low-back s i d =
-    ap digitText (omega (arith, d (2 * i) (omega arith), d (2 * i + 1) (omega arith)))
-    ∙ digit-back (getD s (2 * i + 1) 0) (d (2 * i + 1) (omega arith))
+  pub low-back : digitText (byteAt s i % 16) ≡ getD (raised s) (2 * i + 1) 0
+  unfolding byteAt
+  low-back =
+      ap digitText (omega (arith, d (2 * i) (omega arith), d (2 * i + 1) (omega arith)))
+      ∙ digit-back (getD s (2 * i + 1) 0) (d (2 * i + 1) (omega arith))
+      ∙ sym (raised-at s (2 * i + 1))
 
 -- four bytes are the bytes of the word that they read as
 pub word-back : (s : List ℕ) (i : ℕ) → WordBytes s i

@@ -1,24 +1,20 @@
--- The digits of a text: the test of all of them, and what bytes and sums of digits are at most.
+-- The digits of a text: the test of all of them, what bytes and sums of digits are at most, and what stays of
+-- a text that is raised.
 -- Assumes nothing.
 use Prim.Native.Nat.{ℕ, zero, suc, _+_, _*_, _-_, _≤_, _<_}
 use native.Mathlib.Omega.{arith}
-use native.Mathlib.Nat.{eq-or-lt-of-le}
-use native.Mathlib.Numerals.{add-one}
 use mathlib.Core.Path.{_≡_, refl}
 use mathlib.Core.Bool.{Bool, true, false}
-use mathlib.Core.Logic.{⊎-elim}
-use mathlib.Core.List.{List}
-use lib.Dec.{ltb, leb}
-use lib.ListN.{length, take, drop, length-drop}
-use lib.Seq.{take-all, getD-drop}
-use borrow.Author.Tests.{lt-ltb, ltb-true, leb-true, leb-false}
-use Rattle.model.specs.Sums.{pick, sumTo}
-use Rattle.frames.specs.Digits.{both, digitOf, digitAt, byteAt, Digits, digits}
+use mathlib.Core.List.{List, [], _∷_}
+use lib.Dec.{leb, eqb}
+use lib.ListN.{length, getD, drop, length-map, List·getD-map}
+use lib.Seq.{getD-drop}
+use borrow.Author.Tests.{lt-leb, leb-true, leb-false, eq-eqb, ne-eqb, eqb-true}
+use Rattle.base.specs.Choice.{pick, both}
+use Rattle.base.specs.Sums.{sumTo}
+use Rattle.base.proofs.FirstLaws.{NoneTo, first-none, none-first, find-step}
+use Rattle.frames.specs.Digits.{digitOf, raise, raised, digitAt, byteAt, Digits, noDigit, allDigits}
 use Rattle.frames.specs.Frames.{frameSum}
-
--- the part of a list from place a to its end
-pub tail-part : (a : ℕ) (s : List ℕ) → take (length s - a) (drop a s) ≡ drop a s
-tail-part a s = take-all (length s - a) (drop a s) (omega (arith, length-drop a s))
 
 -- a byte that is no digit has 255
 pub no-digit-none : (b : ℕ) → 16 ≤ digitOf b → digitOf b ≡ 255
@@ -40,54 +36,45 @@ no-digit-none b h = go (leb 48 b) refl (leb b 57) refl (leb 65 b) refl (leb b 70
 
 module _ (s : List ℕ) where
   -- the test passes exactly where all are digits
-  pub digits-right : (n : ℕ) → digits s n ≡ true → Digits s n
-  unfolding digits
-  digits-right zero e i h = absurd (let z : ⊥ = omega arith in z)
-  digits-right (suc n) e i h = go (digits s n) refl e (λ d. digits-right n d i)
-    where
-      go : (t : Bool) → digits s n ≡ t → both t (ltb (digitAt s n) 16) ≡ true
-          → (digits s n ≡ true → i < n → digitAt s i < 16) → digitAt s i < 16
-      go true d last ih =
-          ⊎-elim (λ (same : i ≡ n). rw same (ltb-true (digitAt s n) 16 last)) (λ (less : i < n). ih d less)
-          (eq-or-lt-of-le {n = i} {m = n} (omega arith))
-      go false d last ih = absurd (let z : _≡_ {A = ℕ} 0 1 = cc in omega arith)
+  pub digits-right : (n : ℕ) → allDigits s n ≡ true → Digits s n
+  unfolding allDigits
+  digits-right n e i h = leb-false 16 (digitAt s i) (none-first (noDigit s) (eqb-true _ 0 e) i h)
 
-  pub right-digits : (n : ℕ) → Digits s n → digits s n ≡ true
-  unfolding digits
-  right-digits zero h = refl
-  right-digits (suc n) h =
-      rw (right-digits n (λ i l. h i (omega arith)), lt-ltb (digitAt s n) 16 (h n (omega arith)))
+  pub none-wrong : {n : ℕ} → NoneTo (noDigit s) n → allDigits s n ≡ true
+  unfolding allDigits
+  none-wrong none = eq-eqb _ 0 (first-none (noDigit s) none)
+
+  -- the loop passes one digit more
+  pub passed-digit : {i : ℕ} → NoneTo (noDigit s) i → digitAt s i < 16 → NoneTo (noDigit s) (i + 1)
+  passed-digit {i} none h = find-step (noDigit s) none (lt-leb 16 (digitAt s i) h)
+
+  pub right-digits : (n : ℕ) → Digits s n → allDigits s n ≡ true
+  right-digits n h = none-wrong (λ i l. lt-leb 16 (digitAt s i) (h i l))
 
   -- one that is none is enough
-  pub digits-wrong : (n i : ℕ) → i < n → 16 ≤ digitAt s i → digits s n ≡ false
-  digits-wrong n i l h = go (digits s n) refl
-    where
-      go : (t : Bool) → digits s n ≡ t → digits s n ≡ false
-      go true e = absurd (let z : ⊥ = omega (arith, digits-right n e i l) in z)
-      go false e = e
+  pub digits-wrong : (n i : ℕ) → i < n → 16 ≤ digitAt s i → allDigits s n ≡ false
+  unfolding allDigits
+  digits-wrong n i l h =
+      ne-eqb _ 0
+      (λ z. let y : ⊥ = omega (arith, leb-false 16 (digitAt s i) (none-first (noDigit s) z i l)) in y)
 
   pub byte-below : (i : ℕ) → Digits s (2 * i + 2) → byteAt s i < 256
   unfolding byteAt
   byte-below i h = omega (arith, h (2 * i) (omega arith), h (2 * i + 1) (omega arith))
 
-  pub sum-below : (n : ℕ) → Digits s (2 * n) → frameSum s n ≤ 255 * n
+  sum-below : (n : ℕ) → Digits s (2 * n) → frameSum s n ≤ 255 * n
   unfolding sumTo
   sum-below zero h = omega arith
   sum-below (suc n) h =
       omega (arith, sum-below n (λ i l. h i (omega arith)), byte-below n (λ i l. h i (omega arith)))
 
+  -- the sum of a frame fits
+  pub sum-fits : (n : ℕ) → n < 16 → Digits s (2 * n + 2) → frameSum s n + byteAt s n ≤ 4080
+  sum-fits n h d = omega (arith, sum-below n (λ i l. d i (omega arith)), byte-below n d)
+
   -- digits of a part of a text
   pub part-digits : (k n : ℕ) → Digits s (k + n) → Digits (drop k s) n
   part-digits k n h i l = rw getD-drop (h (k + i) (omega arith))
-
-  -- one turn of the sum
-  pub sum-step : (n : ℕ) → frameSum s (n + 1) ≡ frameSum s n + byteAt s n
-  unfolding sumTo
-  sum-step n = rw add-one
-
-  -- and it fits
-  pub sum-fits : (n : ℕ) → n < 16 → Digits s (2 * n + 2) → frameSum s n + byteAt s n ≤ 4080
-  sum-fits n h d = omega (arith, sum-below n (λ i l. d i (omega arith)), byte-below n d)
 
   -- the bytes of a word are bytes
   pub record WordBytes (i : ℕ) : Type 0 where
@@ -103,3 +90,27 @@ module _ (s : List ℕ) where
     third = byte-below (i + 2) (λ j l. d j (omega arith));
     fourth = byte-below (i + 3) (λ j l. d j (omega arith));
   }
+
+-- A raised byte is read as the byte is, and only 0A is raised to 0A.
+
+pub raise-digit : (b : ℕ) → digitOf (raise b) ≡ digitOf b
+unfolding raise
+raise-digit b = refl
+
+pub raise-end : (b : ℕ) → eqb (raise b) 10 ≡ eqb b 10
+unfolding raise
+raise-end b = refl
+
+pub raised-length : (s : List ℕ) → length (raised s) ≡ length s
+unfolding raised
+raised-length s = length-map s raise
+
+pub raised-at : (s : List ℕ) (i : ℕ) → getD (raised s) i 0 ≡ raise (getD s i 0)
+unfolding raised raise
+raised-at s i = List·getD-map raise s i 0
+
+pub raised-drop : (k : ℕ) (s : List ℕ) → drop k (raised s) ≡ raised (drop k s)
+unfolding raised
+raised-drop zero s = refl
+raised-drop (suc k) [] = refl
+raised-drop (suc k) (b ∷ s) = raised-drop k s

@@ -1,6 +1,7 @@
-pub mod TableLaws
+pub mod BelowLaws
 pub mod DigitLaws
 pub mod FrameLaws
 pub mod ByteLaws
 pub mod TextLaws
+pub mod AlikeLaws
 pub mod Unique

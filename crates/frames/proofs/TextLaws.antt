@@ -1,53 +1,45 @@
 -- A line that is read is the line as it is written: digits and 0A, with the one check that makes the sum 0.
--- `line-there`: a written line reads as its bytes; `line-back`: a right frame is the text of its bytes.
--- Assumes nothing.
+-- `line-there`: a written line reads as its bytes; `line-back`: a right frame, raised, is the text of its
+-- bytes. Assumes nothing.
 use Prim.Native.Nat.{ℕ, zero, suc, _+_, _*_, _/_, _%_, _<_, _≤_}
 use native.Mathlib.Omega.{arith}
 use native.Mathlib.Numerals.{add-one}
 use mathlib.Core.Path.{_≡_, refl, sym, _∙_, ap, ap₂}
 use mathlib.Core.List.{List, [], _∷_, _++_, append-assoc}
-use lib.ListN.{length, getD, take, drop, length-append, take-append-drop, List·getD-append}
+use lib.ListN.{length, getD, take, drop, length-append, List·getD-append}
 use lib.Seq.{drop-cons, take-suc, ext-getD, getD-append-seam}
-use Rattle.model.specs.Sums.{sumTo}
-use Rattle.model.specs.Forcing.{tab}
-use Rattle.model.proofs.ForcingLaws.{tab-at}
-use Rattle.frames.specs.Digits.{byteAt, Digits}
+use borrow.Author.Tests.{eq-eqb, eqb-true}
+use Rattle.base.specs.Sums.{sumTo}
+use Rattle.base.specs.Rows.{listFrom, listOf}
+use Rattle.base.proofs.SumLaws.{sum-step}
+use Rattle.base.proofs.RowLaws.{list-length, list-at}
+use Rattle.frames.specs.Digits.{raised, byteAt, Digits}
 use Rattle.frames.specs.Frames.{frameSum}
 use Rattle.frames.specs.Faults.{FrameRight}
-use Rattle.frames.specs.Text.{bytesText, sumOf, check, lineText, Bytes}
-use Rattle.frames.proofs.DigitLaws.{byte-below, sum-step}
+use Rattle.frames.specs.Text.{bytesText, bytesSum, checkByte, lineText, Bytes}
+use Rattle.frames.proofs.DigitLaws.{byte-below, raise-end, raised-length, raised-at}
 use Rattle.frames.proofs.ByteLaws.{digit-there, byte-there, byte-next, high-back, low-back}
 
 -- Lists of bytes.
 
-tab-length : (f : ℕ → ℕ) (i n : ℕ) → length (tab f i n) ≡ n
-unfolding tab
-tab-length f i zero = refl
-tab-length f i (suc n) = ap suc (tab-length f (suc i) n)
+list-last : (f : ℕ → ℕ) (i n : ℕ) → listFrom f i (suc n) ≡ listFrom f i n ++ (f (i + n) ∷ [])
+unfolding listFrom
+list-last f i zero = ap (λ k. f k ∷ []) (omega arith)
+list-last f i (suc n) =
+    ap (λ r. f i ∷ r) (list-last f (suc i) n ∙ ap (λ k. listFrom f (suc i) n ++ (f k ∷ [])) (omega arith))
 
-tab-last : (f : ℕ → ℕ) (i n : ℕ) → tab f i (suc n) ≡ tab f i n ++ (f (i + n) ∷ [])
-unfolding tab
-tab-last f i zero = ap (λ k. f k ∷ []) (omega arith)
-tab-last f i (suc n) =
-    ap (λ r. f i ∷ r) (tab-last f (suc i) n ∙ ap (λ k. tab f (suc i) n ++ (f k ∷ [])) (omega arith))
-
-sum-append : (xs bs : List ℕ) → sumOf (xs ++ bs) ≡ sumOf xs + sumOf bs
-unfolding sumOf
+sum-append : (xs bs : List ℕ) → bytesSum (xs ++ bs) ≡ bytesSum xs + bytesSum bs
+unfolding bytesSum
 sum-append [] bs = omega arith
 sum-append (x ∷ xs) bs = omega (arith, sum-append xs bs)
 
-sum-tab : (f : ℕ → ℕ) (n : ℕ) → sumOf (tab f 0 n) ≡ sumTo f n
-unfolding tab sumOf sumTo
-sum-tab f zero = refl
-sum-tab f (suc n) = ap sumOf (tab-last f 0 n) ∙ sum-append (tab f 0 n) _ ∙ last (sum-tab f n)
+sum-list : (f : ℕ → ℕ) (n : ℕ) → bytesSum (listOf f n) ≡ sumTo f n
+unfolding listFrom bytesSum sumTo
+sum-list f zero = refl
+sum-list f (suc n) = ap bytesSum (list-last f 0 n) ∙ sum-append (listOf f n) _ ∙ last (sum-list f n)
   where
-    last : sumOf (tab f 0 n) ≡ sumTo f n → sumOf (tab f 0 n) + (f (0 + n) + 0) ≡ sumTo f n + f n
+    last : bytesSum (listOf f n) ≡ sumTo f n → bytesSum (listOf f n) + (f (0 + n) + 0) ≡ sumTo f n + f n
     last e = omega (arith, ap f (let z : 0 + n ≡ n = omega arith in z))
-
-pub bytes-at : (bs : List ℕ) → Bytes bs → (i : ℕ) → i < length bs → getD bs i 0 < 256
-bytes-at [] h i l = absurd (let z : ⊥ = omega arith in z)
-bytes-at (b ∷ bs) h zero l = h .0
-bytes-at (b ∷ bs) h (suc i) l = bytes-at bs (h .1) i (omega arith)
 
 bytes-append : (xs : List ℕ) (b : ℕ) → Bytes xs → b < 256 → Bytes (xs ++ (b ∷ []))
 bytes-append [] b h l = (l, tt)
@@ -74,25 +66,25 @@ text-byte (b ∷ bs) r h zero l = byte-there b (bytesText bs ++ r) (h .0)
 text-byte (b ∷ bs) r h (suc i) l =
     ap (byteAt _) (sym (add-one i)) ∙ byte-next _ i ∙ text-byte bs r (h .1) i (omega arith)
 
-text-bytes : (bs r : List ℕ) → Bytes bs → tab (byteAt (bytesText bs ++ r)) 0 (length bs) ≡ bs
+text-bytes : (bs r : List ℕ) → Bytes bs → listOf (byteAt (bytesText bs ++ r)) (length bs) ≡ bs
 text-bytes bs r h =
-    ext-getD 0 _ bs (tab-length _ 0 (length bs))
+    ext-getD 0 _ bs (list-length _ 0 (length bs))
     (λ i l.
-    let below : i < length bs = omega (arith, tab-length (byteAt (bytesText bs ++ r)) 0 (length bs)) in
-    tab-at (byteAt (bytesText bs ++ r)) (length bs) i below ∙ text-byte bs r h i below)
+    let below : i < length bs = omega (arith, list-length (byteAt (bytesText bs ++ r)) 0 (length bs)) in
+    list-at 0 (byteAt (bytesText bs ++ r)) (length bs) i below ∙ text-byte bs r h i below)
 
 -- The check.
 
-pub check-byte : (bs : List ℕ) → check bs < 256
-unfolding check
+check-byte : (bs : List ℕ) → checkByte bs < 256
+unfolding checkByte
 check-byte bs = omega arith
 
-check-sum : (bs : List ℕ) → (sumOf bs + check bs) % 256 ≡ 0
-unfolding check
+check-sum : (bs : List ℕ) → (bytesSum bs + checkByte bs) % 256 ≡ 0
+unfolding checkByte
 check-sum bs = omega arith
 
-check-only : (bs : List ℕ) (c : ℕ) → c < 256 → (sumOf bs + c) % 256 ≡ 0 → c ≡ check bs
-unfolding check
+check-only : (bs : List ℕ) (c : ℕ) → c < 256 → (bytesSum bs + c) % 256 ≡ 0 → c ≡ checkByte bs
+unfolding checkByte
 check-only bs c l e = omega arith
 
 -- A written line is right, and its bytes are read.
@@ -100,24 +92,24 @@ check-only bs c l e = omega arith
 pub line-length : (bs : List ℕ) → length (lineText bs) ≡ 2 * (length bs + 1) + 1
 unfolding lineText
 line-length bs =
-    length-append (bytesText (bs ++ (check bs ∷ []))) (10 ∷ [])
-    ∙ omega (arith, text-length (bs ++ (check bs ∷ [])), length-append bs (check bs ∷ []))
+    length-append (bytesText (bs ++ (checkByte bs ∷ []))) (10 ∷ [])
+    ∙ omega (arith, text-length (bs ++ (checkByte bs ∷ [])), length-append bs (checkByte bs ∷ []))
 
 module _ (bs rest : List ℕ) (all : Bytes bs) where
   frame : List ℕ
-  frame = bs ++ (check bs ∷ [])
+  frame = bs ++ (checkByte bs ∷ [])
 
   frame-bytes : Bytes frame
   unfolding frame
-  frame-bytes = bytes-append bs (check bs) all (check-byte bs)
+  frame-bytes = bytes-append bs (checkByte bs) all (check-byte bs)
 
   frame-length : length frame ≡ length bs + 1
   unfolding frame
-  frame-length = length-append bs (check bs ∷ [])
+  frame-length = length-append bs (checkByte bs ∷ [])
 
   line-is : lineText bs ++ rest ≡ bytesText frame ++ (10 ∷ rest)
   unfolding lineText frame
-  line-is = append-assoc (bytesText (bs ++ (check bs ∷ []))) (10 ∷ []) rest
+  line-is = append-assoc (bytesText (bs ++ (checkByte bs ∷ []))) (10 ∷ []) rest
 
   text-end : length (bytesText frame) ≡ 2 * (length bs + 1)
   text-end = omega (arith, text-length frame, frame-length)
@@ -128,16 +120,16 @@ module _ (bs rest : List ℕ) (all : Bytes bs) where
   line-byte i l =
       ap (λ s. byteAt s i) line-is
       ∙ text-byte frame (10 ∷ rest) frame-bytes i (omega (arith, frame-length))
-      ∙ List·getD-append bs (check bs ∷ []) 0 i l
+      ∙ List·getD-append bs (checkByte bs ∷ []) 0 i l
 
-  line-frame-sum : frameSum (lineText bs ++ rest) (length bs + 1) ≡ sumOf bs + check bs
-  unfolding frame sumOf
+  line-frame-sum : frameSum (lineText bs ++ rest) (length bs + 1) ≡ bytesSum bs + checkByte bs
+  unfolding frame bytesSum
   line-frame-sum =
       ap₂ frameSum line-is (sym frame-length)
-      ∙ sym (sum-tab (byteAt (bytesText frame ++ (10 ∷ rest))) (length frame))
-      ∙ ap sumOf (text-bytes frame (10 ∷ rest) frame-bytes)
-      ∙ sum-append bs (check bs ∷ [])
-      ∙ (let e : sumOf bs + (check bs + 0) ≡ sumOf bs + check bs = omega arith in e)
+      ∙ sym (sum-list (byteAt (bytesText frame ++ (10 ∷ rest))) (length frame))
+      ∙ ap bytesSum (text-bytes frame (10 ∷ rest) frame-bytes)
+      ∙ sum-append bs (checkByte bs ∷ [])
+      ∙ (let e : bytesSum bs + (checkByte bs + 0) ≡ bytesSum bs + checkByte bs = omega arith in e)
 
   -- the text of a frame of due size and kind is a right frame
   pub line-there : (size kind : ℕ) → length bs + 1 ≡ size → 0 < length bs → getD bs 0 0 ≡ kind
@@ -145,14 +137,14 @@ module _ (bs rest : List ℕ) (all : Bytes bs) where
   line-there size kind e some k = record {
     text = record {
       long = omega (arith, length-append (lineText bs) rest, line-length bs);
-      digits = rw line-is (rw (← e, ← frame-length) (text-digits frame (10 ∷ rest) frame-bytes));
+      each = rw line-is (rw (← e, ← frame-length) (text-digits frame (10 ∷ rest) frame-bytes));
       end = rw line-is (rw (← e, ← text-end) (getD-append-seam (bytesText frame) 10 rest 0));
     };
     sum = rw (← e) (ap (λ x. x % 256) line-frame-sum ∙ check-sum bs);
     due = line-byte 0 some ∙ k;
   }
 
--- A right frame is the text of its bytes.
+-- A right frame, raised, is the text of its bytes.
 
 two : (s : List ℕ) (a m : ℕ) → suc a < length s
     → take (suc (suc m)) (drop a s) ≡ getD s a 0 ∷ getD s (suc a) 0 ∷ take m (drop (suc (suc a)) s)
@@ -162,45 +154,54 @@ two s a m h =
 
 module _ (s : List ℕ) where
   back-from : (n i : ℕ) → 2 * i + 2 * n ≤ length s → Digits s (2 * i + 2 * n)
-      → bytesText (tab (byteAt s) i n) ≡ take (2 * n) (drop (2 * i) s)
-  unfolding bytesText tab
+      → bytesText (listFrom (byteAt s) i n) ≡ take (2 * n) (drop (2 * i) (raised s))
+  unfolding bytesText listFrom
   back-from zero i l d = refl
   back-from (suc n) i l d =
       rw (high-back s i (λ j m. d j (omega arith)), low-back s i (λ j m. d j (omega arith)))
       (step (back-from n (suc i) (omega arith) (λ j m. d j (omega arith))))
     where
-      step : bytesText (tab (byteAt s) (suc i) n) ≡ take (2 * n) (drop (2 * suc i) s)
-          → getD s (2 * i) 0 ∷ getD s (2 * i + 1) 0 ∷ bytesText (tab (byteAt s) (suc i) n)
-          ≡ take (2 * suc n) (drop (2 * i) s)
+      x : List ℕ
+      x = raised s
+
+      step : bytesText (listFrom (byteAt s) (suc i) n) ≡ take (2 * n) (drop (2 * suc i) x)
+          → getD x (2 * i) 0 ∷ getD x (2 * i + 1) 0 ∷ bytesText (listFrom (byteAt s) (suc i) n)
+          ≡ take (2 * suc n) (drop (2 * i) x)
       step ih =
           let place : 2 * i + 1 ≡ suc (2 * i) = omega arith in
           let next : 2 * suc i ≡ suc (suc (2 * i)) = omega arith in
           let more : 2 * suc n ≡ suc (suc (2 * n)) = omega arith in
-          rw (ih, place, next, more) (sym (two s (2 * i) (2 * n) (omega arith)))
+          rw (ih, place, next, more) (sym (two x (2 * i) (2 * n) (omega (arith, raised-length s))))
 
   pub line-back : (m kind : ℕ) → FrameRight s (m + 1) kind
-      → s ≡ lineText (tab (byteAt s) 0 m) ++ drop (2 * (m + 1) + 1) s
+      → take (2 * (m + 1) + 1) (raised s) ≡ lineText (listOf (byteAt s) m)
   unfolding lineText
-  line-back m kind r =
-      sym (take-append-drop (2 * (m + 1) + 1) s) ∙ ap (λ t. t ++ drop (2 * (m + 1) + 1) s) (sym front)
+  line-back m kind r = sym front
     where
-      frame-is : tab (byteAt s) 0 m ++ (check (tab (byteAt s) 0 m) ∷ []) ≡ tab (byteAt s) 0 (suc m)
-      frame-is =
-          ap (λ x. tab (byteAt s) 0 m ++ (x ∷ []))
-          (sym (check-only (tab (byteAt s) 0 m) (byteAt s m)
-          (byte-below s m (λ j l. r .text .digits j (omega arith)))
-          (ap (λ x. x % 256) (ap (λ x. x + byteAt s m) (sum-tab (byteAt s) m) ∙ sym (sum-step s m)) ∙ r .sum))
-          ∙ ap (byteAt s) (let z : m ≡ 0 + m = omega arith in z))
-          ∙ sym (tab-last (byteAt s) 0 m)
+      bytes : List ℕ
+      bytes = listOf (byteAt s) m
 
-      front : bytesText (tab (byteAt s) 0 m ++ (check (tab (byteAt s) 0 m) ∷ [])) ++ (10 ∷ [])
-          ≡ take (2 * (m + 1) + 1) s
+      frame-is : bytes ++ (checkByte bytes ∷ []) ≡ listOf (byteAt s) (suc m)
+      frame-is =
+          ap (λ x. bytes ++ (x ∷ []))
+          (sym (check-only bytes (byteAt s m)
+          (byte-below s m (λ j l. r .text .each j (omega arith)))
+          (ap (λ x. x % 256) (sum-step (byteAt s) (sum-list (byteAt s) m) refl) ∙ r .sum))
+          ∙ ap (byteAt s) (let z : m ≡ 0 + m = omega arith in z))
+          ∙ sym (list-last (byteAt s) 0 m)
+
+      end-is : 10 ≡ getD (raised s) (2 * (m + 1)) 0
+      end-is =
+          sym (raised-at s (2 * (m + 1))
+          ∙ eqb-true _ 10 (raise-end (getD s (2 * (m + 1)) 0) ∙ eq-eqb _ 10 (r .text .end)))
+
+      front : bytesText (bytes ++ (checkByte bytes ∷ [])) ++ (10 ∷ []) ≡ take (2 * (m + 1) + 1) (raised s)
       front =
           let more : 2 * (m + 1) + 1 ≡ suc (2 * (m + 1)) = omega arith in
           let one : m + 1 ≡ suc m = omega arith in
           ap (λ x. bytesText x ++ (10 ∷ [])) frame-is
           ∙ ap (λ x. x ++ (10 ∷ []))
-          (back-from (suc m) 0 (omega (arith, r .text .long)) (λ j l. r .text .digits j (omega arith)))
-          ∙ ap₂ (λ k x. take (2 * k) s ++ (x ∷ [])) (sym one) (sym (r .text .end))
-          ∙ sym (take-suc s (2 * (m + 1)) 0 (r .text .long))
-          ∙ ap (λ k. take k s) (sym more)
+          (back-from (suc m) 0 (omega (arith, r .text .long)) (λ j l. r .text .each j (omega arith)))
+          ∙ ap₂ (λ k x. take (2 * k) (raised s) ++ (x ∷ [])) (sym one) end-is
+          ∙ sym (take-suc (raised s) (2 * (m + 1)) 0 (omega (arith, r .text .long, raised-length s)))
+          ∙ ap (λ k. take k (raised s)) (sym more)

@@ -1,20 +1,18 @@
--- Two results that a promise allows are equal, for each public function here: its promise is one equation.
+-- Any two results that the promise of a public function of this crate allows are equal.
 -- Assumes nothing.
-use Prim.Native.Nat.{ℕ}
-use mathlib.Core.Path.{_≡_, sym, _∙_}
-use mathlib.Core.List.{List}
-use Rattle.frames.specs.Digits.{byteAt, wordAt}
-use Rattle.frames.specs.Frames.{frameFault}
+use Rattle.base.proofs.Unique.{only, Only}
+use Rattle.frames.proofs.byte.Kinds as byte
+use Rattle.frames.proofs.byte.Reads as byte-reads
+use Rattle.frames.proofs.word.Kinds as word
+use Rattle.frames.proofs.word.Reads as word-reads
+use Rattle.frames.proofs.frame_fault.Kinds as frame-fault
+use Rattle.frames.proofs.frame_fault.Reads as frame-fault-reads
 
-pub one-result : {A : Type 0} {x r r′ : A} → r ≡ x → r′ ≡ x → r ≡ r′
-one-result a b = a ∙ sym b
+pub byte-only : Only 1 byte.ps byte.r byte-reads.Post
+byte-only κs a x y s s′ p q = only p q
 
-pub byte-only : (s : List ℕ) (i r r′ : ℕ) → r ≡ byteAt s i → r′ ≡ byteAt s i → r ≡ r′
-byte-only s i r r′ = one-result
+pub word-only : Only 1 word.ps word.r word-reads.Post
+word-only κs a x y s s′ p q = only p q
 
-pub word-only : (s : List ℕ) (i r r′ : ℕ) → r ≡ wordAt s i → r′ ≡ wordAt s i → r ≡ r′
-word-only s i r r′ = one-result
-
-pub frame-fault-only : (s : List ℕ) (size kind r r′ : ℕ) → r ≡ frameFault s size kind
-    → r′ ≡ frameFault s size kind → r ≡ r′
-frame-fault-only s size kind r r′ = one-result
+pub frame-fault-only : Only 1 frame-fault.ps frame-fault.r frame-fault-reads.Post
+frame-fault-only κs a x y s s′ p q = only p q

@@ -3,22 +3,19 @@
 --   document 01                                          here
 --   upper-case digits 0-9, A-F                           digitOf, and digitText the other way
 --   the digit value of a byte, 255 for what is no digit  digitOf b
+--   a byte as the writer writes it                       raise b, and raised s for a text, byte by byte
 --   two digits to a byte                                 byteAt s i: byte i of the line that s starts with
 --   4 bytes, highest first                               wordAt s i
---   all of the due digits are digits                     Digits s n, and its test digits s n
+--   all of the due digits are digits                     Digits s n, and its test allDigits s n
 --
--- The digit rule is in `digitOf` and `digitText` alone. Assumes nothing.
-use Prim.Native.Nat.{ℕ, zero, suc, _+_, _*_, _-_, _<_}
-use mathlib.Core.Bool.{Bool, true, false}
-use mathlib.Core.List.{List}
-use lib.Dec.{ltb, leb}
+-- The digit rule is in `digitOf`, `digitText` and `raise` alone. Assumes nothing.
+use Prim.Native.Nat.{ℕ, _+_, _*_, _-_, _<_}
+use mathlib.Core.Bool.{Bool}
+use mathlib.Core.List.{List, map}
+use lib.Dec.{ltb, leb, eqb}
 use lib.ListN.{getD}
-use Rattle.model.specs.Sums.{pick}
-
--- both tests
-abbrev pub both : Bool → Bool → Bool
-both true b = b
-both false b = false
+use Rattle.base.specs.Choice.{pick, both}
+use Rattle.base.specs.Least.{firstOf}
 
 -- b is one of lo .. hi
 abbrev pub among : ℕ → ℕ → ℕ → Bool
@@ -31,6 +28,14 @@ digitOf b = pick (among 48 57 b) (b - 48) (pick (among 65 70 b) (b - 55) 255)
 -- the byte of a digit
 unfoldable pub digitText : ℕ → ℕ
 digitText d = pick (ltb d 10) (48 + d) (55 + d)
+
+-- The byte that the writer writes for what b is read as. A digit is read from one byte only, the one that is
+-- written, so it is b itself; where two bytes are read as one digit, this says which of them is written.
+unfoldable pub raise : ℕ → ℕ
+raise b = b
+
+unfoldable pub raised : List ℕ → List ℕ
+raised s = map raise s
 
 -- the digit at a place of a text
 abbrev pub digitAt : List ℕ → ℕ → ℕ
@@ -48,6 +53,9 @@ wordAt s i = 16777216 * byteAt s i + 65536 * byteAt s (i + 1) + 256 * byteAt s (
 abbrev pub Digits : List ℕ → ℕ → Type 0
 Digits s n = (i : ℕ) → i < n → digitAt s i < 16
 
-unfoldable pub digits : List ℕ → ℕ → Bool
-digits s zero = true
-digits s (suc n) = both (digits s n) (ltb (digitAt s n) 16)
+-- the byte at a place is no digit
+abbrev pub noDigit : List ℕ → ℕ → Bool
+noDigit s i = leb 16 (digitAt s i)
+
+unfoldable pub allDigits : List ℕ → ℕ → Bool
+allDigits s n = eqb (firstOf (noDigit s) n) 0

@@ -17,13 +17,13 @@ use Rattle.frames.specs.Digits.{digitAt, byteAt, Digits}
 use Rattle.frames.specs.Frames.{frameSum}
 
 -- the due line and its 0A are there, and all due digits are digits
-pub record Written (s : List ℕ) (size : ℕ) : Type 0 where
+pub record WholeLine (s : List ℕ) (size : ℕ) : Type 0 where
   pub long : 2 * size < length s
-  pub digits : Digits s (2 * size)
+  pub each : Digits s (2 * size)
   pub end : getD s (2 * size) 0 ≡ 10
 
 pub record FrameRight (s : List ℕ) (size kind : ℕ) : Type 0 where
-  pub text : Written s size
+  pub text : WholeLine s size
   pub sum : frameSum s size % 256 ≡ 0
   pub due : byteAt s 0 ≡ kind
 
@@ -31,5 +31,5 @@ pub data FrameWrong (s : List ℕ) (size kind : ℕ) : ℕ → Type 0 where
   short : length s < 2 * size + 1 → FrameWrong s size kind 1
   no-digit : 2 * size < length s → (i : ℕ) → i < 2 * size → digitAt s i ≡ 255 → FrameWrong s size kind 2
   no-end : 2 * size < length s → (getD s (2 * size) 0 ≡ 10 → ⊥) → FrameWrong s size kind 2
-  no-sum : Written s size → (frameSum s size % 256 ≡ 0 → ⊥) → FrameWrong s size kind 3
-  no-kind : Written s size → frameSum s size % 256 ≡ 0 → (byteAt s 0 ≡ kind → ⊥) → FrameWrong s size kind 4
+  no-sum : WholeLine s size → (frameSum s size % 256 ≡ 0 → ⊥) → FrameWrong s size kind 3
+  no-kind : WholeLine s size → frameSum s size % 256 ≡ 0 → (byteAt s 0 ≡ kind → ⊥) → FrameWrong s size kind 4

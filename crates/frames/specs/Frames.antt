@@ -11,8 +11,9 @@ use mathlib.Core.Bool.{not}
 use mathlib.Core.List.{List}
 use lib.Dec.{leb, eqb}
 use lib.ListN.{length, getD}
-use Rattle.model.specs.Sums.{pick, sumTo}
-use Rattle.frames.specs.Digits.{byteAt, digits}
+use Rattle.base.specs.Choice.{pick}
+use Rattle.base.specs.Sums.{sumTo}
+use Rattle.frames.specs.Digits.{byteAt, allDigits}
 
 abbrev pub frameSum : List ℕ → ℕ → ℕ
 frameSum s size = sumTo (byteAt s) size
@@ -20,7 +21,7 @@ frameSum s size = sumTo (byteAt s) size
 unfoldable pub frameFault : List ℕ → ℕ → ℕ → ℕ
 frameFault s size kind =
     pick (leb (length s) (2 * size)) 1
-    (pick (not (digits s (2 * size))) 2
+    (pick (not (allDigits s (2 * size))) 2
     (pick (not (eqb (getD s (2 * size) 0) 10)) 2
     (pick (not (eqb (frameSum s size % 256) 0)) 3
     (pick (not (eqb (byteAt s 0) kind)) 4 0))))

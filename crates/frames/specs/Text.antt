@@ -3,7 +3,7 @@
 --   document 01                                        here
 --   two digits to a byte                               bytesText bs
 --   4 bytes, highest first                             wordBytes w
---   check: all bytes of the frame sum to 0 mod 256     check bs
+--   check: all bytes of the frame sum to 0 mod 256     checkByte bs
 --   a line: the frame's digits, then one byte 0A       lineText bs, bs the frame without its check
 --
 -- Assumes nothing.
@@ -18,15 +18,15 @@ bytesText (b ∷ bs) = digitText (b / 16) ∷ digitText (b % 16) ∷ bytesText b
 unfoldable pub wordBytes : ℕ → List ℕ
 wordBytes w = w / 16777216 ∷ w / 65536 % 256 ∷ w / 256 % 256 ∷ w % 256 ∷ []
 
-unfoldable pub sumOf : List ℕ → ℕ
-sumOf [] = 0
-sumOf (b ∷ bs) = b + sumOf bs
+unfoldable pub bytesSum : List ℕ → ℕ
+bytesSum [] = 0
+bytesSum (b ∷ bs) = b + bytesSum bs
 
-unfoldable pub check : List ℕ → ℕ
-check bs = (256 - sumOf bs % 256) % 256
+unfoldable pub checkByte : List ℕ → ℕ
+checkByte bs = (256 - bytesSum bs % 256) % 256
 
 unfoldable pub lineText : List ℕ → List ℕ
-lineText bs = bytesText (bs ++ (check bs ∷ [])) ++ (10 ∷ [])
+lineText bs = bytesText (bs ++ (checkByte bs ∷ [])) ++ (10 ∷ [])
 
 -- every number of the list is a byte
 abbrev pub Bytes : List ℕ → Type 0

@@ -4,7 +4,7 @@ mod digits;
 ghost use mathlib.Core.Path.{_≡_};
 ghost use Prim.Native.Nat.{_+_, _*_, _≤_, _<_};
 ghost use lib.ListN.{length};
-ghost use Rattle.frames.specs.Digits.{byteAt, wordAt, Digits, digits};
+ghost use Rattle.frames.specs.Digits.{byteAt, wordAt, Digits, allDigits};
 ghost use Rattle.frames.specs.Frames.{frameSum, frameFault};
 
 fn wide(x: u8) -> u32
@@ -16,7 +16,7 @@ fn wide(x: u8) -> u32
 // Whether the first n bytes are digits.
 fn all_digits(s: &[u8], n: usize) -> bool
     requires { ⌜ n ≤ length (now s) ⌝ }
-    ensures { λ r. ⌜ r ≡ digits (now (s .entry)) n ⌝ }
+    ensures { λ r. ⌜ r ≡ allDigits (now (s .entry)) n ⌝ }
 {
     let mut i: usize = 0;
     while i < n {

@@ -1,9 +1,10 @@
 // Every sum done by hand of document 01, run through the planner's answers by value: the lettered cases,
 // the numbers at the borders, and the digits. The file `stdout` is written from document 01's text.
 ghost use Prim.Native.Nat.{_<_};
-use answer::Answer;
-use answer::Done;
-use answer::Job;
+use planner::Answer;
+use planner::Done;
+use planner::Job;
+use planner::Verdict;
 use table::Task;
 
 fn task(period: u32, cost: u32, deadline: u32, flag: u32) -> Task {
@@ -31,25 +32,26 @@ fn put(word: &[u8], x: u32) {
     io::print_decimal(1, x as u64);
 }
 
+// Forcing has passes, a test has none.
+fn put_verdict(v: Verdict) {
+    if v.passes != 0 {
+        put(b" forced ", v.forced);
+        put(b" passes ", v.passes);
+        return;
+    }
+    if v.yes {
+        io::write_all(1, b" yes");
+    } else {
+        io::write_all(1, b" no");
+    }
+}
+
 fn put_answer(answer: Answer) {
     match answer {
-        Answer::Yes => {
-            io::write_all(1, b" yes");
-        }
-        Answer::No => {
-            io::write_all(1, b" no");
-        }
-        Answer::Accepted { forced, passes } => {
-            put(b" forced ", forced);
-            put(b" passes ", passes);
-        }
-        Answer::Refused {
-            number,
-            place,
-            passes,
-        } => {
-            put(b" refused ", number);
-            put(b" place ", place);
+        Answer::Given(v) => put_verdict(v),
+        Answer::Refused { why, passes } => {
+            put(b" refused ", why.number);
+            put(b" place ", why.place);
             put(b" passes ", passes);
         }
     }
@@ -93,12 +95,12 @@ fn pairs() {
     let a = three(task(12, 4, 12, 1), low, none);
     let c = three(task(12, 4, 11, 1), low, none);
     let d = three(task(12, 4, 11, 1), task(24, 9, 18, 0), none);
-    show(b"a", answer::list_core(1, 1, 2, a, Job::Test, 32));
-    show(b"b", answer::list_core(1, 1, 2, a, Job::Force, 32));
-    show(b"c", answer::list_core(1, 1, 2, c, Job::Test, 32));
-    show(b"d", answer::list_core(1, 1, 2, d, Job::Force, 32));
-    show(b"e", answer::list_core(1, 0, 2, a, Job::Test, 32));
-    show(b"f", answer::list_core(1, 0, 2, a, Job::Force, 32));
+    show(b"a", planner::list_done(1, 1, 2, a, Job::Test, 32));
+    show(b"b", planner::list_done(1, 1, 2, a, Job::Force, 32));
+    show(b"c", planner::list_done(1, 1, 2, c, Job::Test, 32));
+    show(b"d", planner::list_done(1, 1, 2, d, Job::Force, 32));
+    show(b"e", planner::list_done(1, 0, 2, a, Job::Test, 32));
+    show(b"f", planner::list_done(1, 0, 2, a, Job::Force, 32));
 }
 
 // The cases of three tasks, of one task alone, and of the empty text: g to l.
@@ -107,18 +109,18 @@ fn others() {
     let high = task(10, 4, 10, 1);
     let g = three(high, high, task(20, 8, 20, 1));
     let h = three(high, high, task(20, 8, 19, 1));
-    show(b"g", answer::list_core(2, 1, 3, g, Job::Test, 32));
-    show(b"h", answer::list_core(2, 1, 3, h, Job::Test, 32));
-    show(b"i", answer::list_core(2, 1, 3, h, Job::Force, 32));
-    show(b"j", answer::list_core(3, 1, 3, g, Job::Test, 32));
+    show(b"g", planner::list_done(2, 1, 3, g, Job::Test, 32));
+    show(b"h", planner::list_done(2, 1, 3, h, Job::Test, 32));
+    show(b"i", planner::list_done(2, 1, 3, h, Job::Force, 32));
+    show(b"j", planner::list_done(3, 1, 3, g, Job::Test, 32));
     let preemptive = three(high, none, none);
     let fixed = three(task(10, 4, 10, 0), none, none);
     show(
         b"k P",
-        answer::list_core(1, 1, 1, preemptive, Job::Test, 32),
+        planner::list_done(1, 1, 1, preemptive, Job::Test, 32),
     );
-    show(b"k N", answer::list_core(1, 1, 1, fixed, Job::Test, 32));
-    show(b"l", answer::plan_core(b"", Job::Force, 32));
+    show(b"k N", planner::list_done(1, 1, 1, fixed, Job::Test, 32));
+    show(b"l", planner::plan_done(b"", Job::Force, 32));
 }
 
 // The numbers at the borders.
@@ -128,29 +130,32 @@ fn borders() {
     let many = [longest; 32];
     show(
         b"n = 32, T = 1000000",
-        answer::list_core(16, 0, 32, many, Job::Test, 32),
+        planner::list_done(16, 0, 32, many, Job::Test, 32),
     );
-    show(b"n = 33", answer::list_core(16, 0, 33, many, Job::Test, 40));
+    show(
+        b"n = 33",
+        planner::list_done(16, 0, 33, many, Job::Test, 40),
+    );
     let beyond = three(task(1000001, 1, 1000000, 1), none, none);
     show(
         b"T = 1000001",
-        answer::list_core(1, 0, 1, beyond, Job::Test, 32),
+        planner::list_done(1, 0, 1, beyond, Job::Test, 32),
     );
     let idle = three(task(10, 0, 10, 1), none, none);
-    show(b"C = 0", answer::list_core(1, 0, 1, idle, Job::Test, 32));
+    show(b"C = 0", planner::list_done(1, 0, 1, idle, Job::Test, 32));
     let late = three(task(10, 4, 11, 1), none, none);
     show(
         b"D = T + 1",
-        answer::list_core(1, 0, 1, late, Job::Test, 32),
+        planner::list_done(1, 0, 1, late, Job::Test, 32),
     );
 }
 
 // One task, T = 10, C = 4, D = 10, preemptive, in upper and in lower case.
 fn digits() {
     let upper = b"01010001FD\n02010000000A000000040000000AE5\n";
-    show(b"the digit A", answer::plan_core(upper, Job::Test, 32));
+    show(b"the digit A", planner::plan_done(upper, Job::Test, 32));
     let lower = b"01010001FD\n02010000000a000000040000000AE5\n";
-    show(b"the digit a", answer::plan_core(lower, Job::Test, 32));
+    show(b"the digit a", planner::plan_done(lower, Job::Test, 32));
 }
 
 fn main() {

@@ -1,35 +1,38 @@
--- The fields of a line are the bytes of its text: a right line is the text of its fields, and the text of
--- legal fields reads as them. Assumes nothing.
+-- The fields of a line are the bytes of its text, in document 01's form: a right line, raised, is the text of
+-- its fields, and the text of legal fields reads as them.
+-- Assumes nothing.
 use Prim.Native.Nat.{ℕ, _+_, _*_, _≤_, _<_}
 use native.Mathlib.Omega.{arith}
 use mathlib.Core.Path.{_≡_, refl, sym, ap, _∙_}
 use mathlib.Core.List.{List, _++_}
-use lib.ListN.{getD, drop, replicate}
-use Rattle.model.specs.Forcing.{tab}
+use lib.ListN.{getD, take, replicate}
+use Rattle.base.specs.Rows.{listFrom, listOf}
 use Rattle.table.specs.declared.Task.{Task}
 use Rattle.table.specs.declared.Table.{Table}
 use Rattle.table.specs.Table.{noTask, LegalTask}
-use Rattle.frames.specs.Digits.{byteAt}
+use Rattle.table.specs.Faults.{LegalHead}
+use Rattle.frames.specs.Digits.{raised, byteAt}
 use Rattle.frames.specs.Text.{wordBytes, lineText, Bytes}
-use Rattle.frames.specs.Faults.{FrameRight}
 use Rattle.frames.proofs.DigitLaws.{WordBytes, word-bytes, part-digits}
 use Rattle.frames.proofs.ByteLaws.{byte-next, word-back, word-there}
 use Rattle.frames.proofs.TextLaws.{line-byte, line-there, line-back}
-use Rattle.lines.specs.Fields.{headOf, taskOf, fieldsPart, headIn}
+use Rattle.lines.specs.Form.{form1}
+use Rattle.lines.specs.Fields.{headOf, taskOf, fieldsPart, textHead}
 use Rattle.lines.specs.Writes.{headBytes, taskBytes}
-use Rattle.lines.specs.Meets.{LegalHead}
+use Rattle.lines.specs.Wrong.{HeadFrame, TaskFrame}
 
--- A right line is the text of its fields.
+-- A right line, raised, is the text of its fields.
 
-head-bytes : (s : List ℕ) → byteAt s 0 ≡ 1 → tab (byteAt s) 0 4 ≡ headBytes (headIn s)
-unfolding tab headBytes headOf
+head-bytes : (s : List ℕ) → byteAt s 0 ≡ 1 → listOf (byteAt s) 4 ≡ headBytes form1 (textHead s)
+unfolding listFrom headBytes headOf
 head-bytes s k = rw (k, byte-next s 0, byte-next s 1, byte-next s 2)
 
-pub head-line-back : (s : List ℕ) → FrameRight s 5 1 → s ≡ lineText (headBytes (headIn s)) ++ drop 11 s
-head-line-back s r = line-back s 4 1 r ∙ ap (λ bs. lineText bs ++ drop 11 s) (head-bytes s (r .due))
+pub head-line-back : (s : List ℕ) → HeadFrame form1 s
+    → take 11 (raised s) ≡ lineText (headBytes form1 (textHead s))
+head-line-back s r = line-back s 4 1 r ∙ ap lineText (head-bytes s (r .due))
 
-task-bytes : (s : List ℕ) → FrameRight s 15 2 → tab (byteAt s) 0 14 ≡ taskBytes (taskOf (fieldsPart s))
-unfolding tab taskBytes taskOf
+task-bytes : (s : List ℕ) → TaskFrame form1 s → listOf (byteAt s) 14 ≡ taskBytes form1 (taskOf (fieldsPart s))
+unfolding listFrom taskBytes form1 taskOf
 task-bytes s r =
     rw (
       word-back (fieldsPart s) 1 (word 1 (omega arith)),
@@ -55,11 +58,11 @@ task-bytes s r =
   where
     word : (i : ℕ) → 2 * i + 10 ≤ 30 → WordBytes (fieldsPart s) i
     word i l =
-        word-bytes (fieldsPart s) i (part-digits s 2 (2 * i + 8) (λ j m. r .text .digits j (omega arith)))
+        word-bytes (fieldsPart s) i (part-digits s 2 (2 * i + 8) (λ j m. r .text .each j (omega arith)))
 
-pub task-line-back : (s : List ℕ) → FrameRight s 15 2
-    → s ≡ lineText (taskBytes (taskOf (fieldsPart s))) ++ drop 31 s
-task-line-back s r = line-back s 14 2 r ∙ ap (λ bs. lineText bs ++ drop 31 s) (task-bytes s r)
+pub task-line-back : (s : List ℕ) → TaskFrame form1 s
+    → take 31 (raised s) ≡ lineText (taskBytes form1 (taskOf (fieldsPart s)))
+task-line-back s r = line-back s 14 2 r ∙ ap lineText (task-bytes s r)
 
 -- The text of legal fields reads as them.
 
@@ -72,7 +75,7 @@ unfolding wordBytes
 word-then w bs l all = (omega arith, (omega arith, (omega arith, (omega arith, all))))
 
 module _ (t : Table) (rest : List ℕ) (legal : LegalHead t) where
-  head-all : Bytes (headBytes t)
+  head-all : Bytes (headBytes form1 t)
   unfolding headBytes
   head-all = (
     omega arith,
@@ -82,22 +85,22 @@ module _ (t : Table) (rest : List ℕ) (legal : LegalHead t) where
     ),
   )
 
-  pub head-line-there : FrameRight (lineText (headBytes t) ++ rest) 5 1
+  pub head-line-there : HeadFrame form1 (lineText (headBytes form1 t) ++ rest)
   unfolding headBytes
-  head-line-there = line-there (headBytes t) rest head-all 5 1 refl (omega arith) refl
+  head-line-there = line-there (headBytes form1 t) rest head-all 5 1 refl (omega arith) refl
 
   head-field : (i : ℕ) → i < 3
-      → byteAt (fieldsPart (lineText (headBytes t) ++ rest)) i ≡ getD (headBytes t) (i + 1) 0
+      → byteAt (fieldsPart (lineText (headBytes form1 t) ++ rest)) i ≡ getD (headBytes form1 t) (i + 1) 0
   unfolding headBytes
-  head-field i l = sym (byte-next _ i) ∙ line-byte (headBytes t) rest head-all (i + 1) (omega arith)
+  head-field i l = sym (byte-next _ i) ∙ line-byte (headBytes form1 t) rest head-all (i + 1) (omega arith)
 
-  pub head-there : headOf (fieldsPart (lineText (headBytes t) ++ rest))
+  pub head-there : headOf (fieldsPart (lineText (headBytes form1 t) ++ rest))
       ≡ record { cores = t .cores; policy = t .policy; n = t .n; tasks = replicate 32 noTask }
   unfolding headOf headBytes
   head-there = rw (head-field 0 (omega arith), head-field 1 (omega arith), head-field 2 (omega arith))
 
 module _ (t : Task) (rest : List ℕ) (legal : LegalTask t) where
-  task-all : Bytes (taskBytes t)
+  task-all : Bytes (taskBytes form1 t)
   unfolding taskBytes
   task-all = (
     omega arith,
@@ -110,19 +113,19 @@ module _ (t : Task) (rest : List ℕ) (legal : LegalTask t) where
     ),
   )
 
-  pub task-line-there : FrameRight (lineText (taskBytes t) ++ rest) 15 2
+  pub task-line-there : TaskFrame form1 (lineText (taskBytes form1 t) ++ rest)
   unfolding taskBytes wordBytes
-  task-line-there = line-there (taskBytes t) rest task-all 15 2 refl (omega arith) refl
+  task-line-there = line-there (taskBytes form1 t) rest task-all 15 2 refl (omega arith) refl
 
   task-field : (i : ℕ) → i < 13
-      → byteAt (fieldsPart (lineText (taskBytes t) ++ rest)) i ≡ getD (taskBytes t) (i + 1) 0
+      → byteAt (fieldsPart (lineText (taskBytes form1 t) ++ rest)) i ≡ getD (taskBytes form1 t) (i + 1) 0
   unfolding taskBytes wordBytes
-  task-field i l = sym (byte-next _ i) ∙ line-byte (taskBytes t) rest task-all (i + 1) (omega arith)
+  task-field i l = sym (byte-next _ i) ∙ line-byte (taskBytes form1 t) rest task-all (i + 1) (omega arith)
 
-  pub task-there : taskOf (fieldsPart (lineText (taskBytes t) ++ rest)) ≡ t
+  pub task-there : taskOf (fieldsPart (lineText (taskBytes form1 t) ++ rest)) ≡ t
   unfolding taskOf taskBytes wordBytes
   task-there =
-      let p : List ℕ = fieldsPart (lineText (taskBytes t) ++ rest) in
+      let p : List ℕ = fieldsPart (lineText (taskBytes form1 t) ++ rest) in
       rw (
         task-field 0 (omega arith),
         word-there p 1 (t .period) (task-field 1 (omega arith)) (task-field 2 (omega arith))

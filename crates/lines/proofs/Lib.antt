@@ -1,9 +1,10 @@
+pub mod FormLaws
 pub mod LineLaws
 pub mod ReadLaws
-pub mod FieldLaws
 pub mod RefusalLaws
 pub mod FieldTextLaws
+pub mod SettledLaws
 pub mod ExactLaws
-pub mod Theorems
 pub mod Samples
+pub mod Theorems
 pub mod Unique

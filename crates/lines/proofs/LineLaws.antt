@@ -1,102 +1,108 @@
 -- One line: its first fault is that of its frame, or else that of its fields; what a task line answers; the
--- part of a right line after its kind byte. Assumes nothing.
-use Prim.Native.Nat.{ℕ, zero, suc, _+_, _*_, _≤_, _<_}
+-- part of a right line after its kind byte.
+-- Assumes nothing.
+use Prim.Native.Nat.{ℕ, zero, suc, _+_, _*_, _-_, _≤_, _<_}
 use native.Mathlib.Omega.{arith}
 use mathlib.Core.Path.{_≡_, refl, sym, ap, _∙_}
 use mathlib.Core.List.{List}
-use lib.ListN.{length}
+use lib.ListN.{length, take, drop, length-drop}
+use lib.Seq.{take-all}
+use Rattle.base.specs.Choice.{orElse}
 use Rattle.table.specs.declared.Task.{Task}
-use Rattle.table.specs.Checks.{taskFault}
+use Rattle.table.specs.Checks.{headFaultOf, taskFault}
 use Rattle.frames.specs.Digits.{Digits}
 use Rattle.frames.specs.Frames.{frameFault}
-use Rattle.frames.specs.Faults.{FrameRight}
 use Rattle.frames.proofs.DigitLaws.{part-digits}
 use Rattle.frames.proofs.FrameLaws.{frame-right}
+use Rattle.lines.specs.declared.Form.{Form}
 use Rattle.lines.specs.declared.TaskLine.the-variants.{Right, Wrong}
-use Rattle.lines.specs.Fields.{first, taskOf, headFaultOf, fieldsPart, headLine, taskLine, headIn}
+use Rattle.lines.specs.Fields.{taskOf, fieldsPart, headFrameFault, taskFrameFault, headLineFault}
+use Rattle.lines.specs.Fields.{taskLineFault, textHead}
 use Rattle.lines.specs.Reads.{taskAnswer}
+use Rattle.lines.specs.Wrong.{TaskFrame}
+
+-- the part of a list from place a to its end
+pub tail-part : (a : ℕ) (s : List ℕ) → take (length s - a) (drop a s) ≡ drop a s
+tail-part a s = take-all (length s - a) (drop a s) (omega (arith, length-drop a s))
 
 -- the fault that is met first
-pub first-some : (a b : ℕ) → (a ≡ 0 → ⊥) → first a b ≡ a
-first-some zero b some = absurd (some refl)
-first-some (suc a) b some = refl
+fault-here : (a b : ℕ) → (a ≡ 0 → ⊥) → orElse a b suc ≡ a
+fault-here zero b some = absurd (some refl)
+fault-here (suc a) b some = refl
 
-pub first-none : (a b : ℕ) → a ≡ 0 → first a b ≡ b
-first-none zero b e = refl
-first-none (suc a) b e = absurd (let z : ⊥ = omega arith in z)
+fault-after : (a b : ℕ) → a ≡ 0 → orElse a b suc ≡ b
+fault-after zero b e = refl
+fault-after (suc a) b e = absurd (let z : ⊥ = omega arith in z)
 
-pub first-zero : (a b : ℕ) → first a b ≡ 0 → (a ≡ 0) × (b ≡ 0)
-first-zero zero b e = (refl, e)
-first-zero (suc a) b e = absurd (let z : ⊥ = omega arith in z)
+fault-none : (a b : ℕ) → orElse a b suc ≡ 0 → (a ≡ 0) × (b ≡ 0)
+fault-none zero b e = (refl, e)
+fault-none (suc a) b e = absurd (let z : ⊥ = omega arith in z)
 
-module _ (s : List ℕ) where
-  pub head-frame-fault : (f : ℕ) → f ≡ frameFault s 5 1 → (f ≡ 0 → ⊥) → headLine s ≡ f
-  unfolding headLine
-  head-frame-fault f e some = rw (← e) (first-some f _ some)
+module _ (f : Form) (s : List ℕ) where
+  pub head-frame-fault : (x : ℕ) → x ≡ headFrameFault f s → (x ≡ 0 → ⊥) → headLineFault f s ≡ x
+  unfolding headLineFault
+  head-frame-fault x e some = rw (← e) (fault-here x _ some)
 
-  pub head-fields-fault : (f : ℕ) → frameFault s 5 1 ≡ 0 → f ≡ headFaultOf (headIn s) → headLine s ≡ f
-  unfolding headLine
-  head-fields-fault f right e = first-none (frameFault s 5 1) _ right ∙ sym e
+  pub head-fields-fault : (x : ℕ) → headFrameFault f s ≡ 0 → x ≡ headFaultOf (textHead s)
+      → headLineFault f s ≡ x
+  unfolding headLineFault
+  head-fields-fault x right e = fault-after (headFrameFault f s) _ right ∙ sym e
 
-  pub task-frame-fault : (f : ℕ) → f ≡ frameFault s 15 2 → (f ≡ 0 → ⊥) → taskLine s ≡ f
-  unfolding taskLine
-  task-frame-fault f e some = rw (← e) (first-some f _ some)
+  pub task-frame-fault : (x : ℕ) → x ≡ taskFrameFault f s → (x ≡ 0 → ⊥) → taskLineFault f s ≡ x
+  unfolding taskLineFault
+  task-frame-fault x e some = rw (← e) (fault-here x _ some)
 
-  pub task-fields-fault : (f : ℕ) → frameFault s 15 2 ≡ 0 → f ≡ taskFault (taskOf (fieldsPart s))
-      → taskLine s ≡ f
-  unfolding taskLine
-  task-fields-fault f right e = first-none (frameFault s 15 2) _ right ∙ sym e
+  pub task-fields-fault : (x : ℕ) → taskFrameFault f s ≡ 0 → x ≡ taskFault (taskOf (fieldsPart s))
+      → taskLineFault f s ≡ x
+  unfolding taskLineFault
+  task-fields-fault x right e = fault-after (taskFrameFault f s) _ right ∙ sym e
 
-  pub head-line-right : headLine s ≡ 0 → FrameRight s 5 1 × (headFaultOf (headIn s) ≡ 0)
-  unfolding headLine
-  head-line-right e =
-      let z : (frameFault s 5 1 ≡ 0) × _ = first-zero (frameFault s 5 1) _ e in
-      (frame-right s 5 1 (z .0), z .1)
+  pub head-line-right : headLineFault f s ≡ 0 → headFaultOf (textHead s) ≡ 0
+  unfolding headLineFault
+  head-line-right e = fault-none (headFrameFault f s) _ e .1
 
-  pub task-line-right : taskLine s ≡ 0 → FrameRight s 15 2 × (taskFault (taskOf (fieldsPart s)) ≡ 0)
-  unfolding taskLine
-  task-line-right e =
-      let z : (frameFault s 15 2 ≡ 0) × _ = first-zero (frameFault s 15 2) _ e in
-      (frame-right s 15 2 (z .0), z .1)
+  pub task-line-frame : taskLineFault f s ≡ 0 → TaskFrame f s
+  unfolding taskLineFault
+  task-line-frame e = frame-right s (f .task .size) (f .task .kind) (fault-none (taskFrameFault f s) _ e .0)
 
+module _ (s : List ℕ) (size kind : ℕ) (e : frameFault s size kind ≡ 0) where
   -- the fields of a right line are there
-  pub part-long : (size kind : ℕ) → frameFault s size kind ≡ 0 → 2 * size < length s
-  part-long size kind e = frame-right s size kind e .text .long
+  pub part-long : 2 * size < length s
+  part-long = frame-right s size kind e .text .long
 
-  pub part-right : (size n : ℕ) (kind : ℕ) → frameFault s size kind ≡ 0 → 2 + n ≤ 2 * size
-      → Digits (fieldsPart s) n
-  part-right size n kind e l =
-      part-digits s 2 n (λ i m. frame-right s size kind e .text .digits i (omega arith))
+  pub part-right : (n : ℕ) → 2 + n ≤ 2 * size → Digits (fieldsPart s) n
+  part-right n l = part-digits s 2 n (λ i m. frame-right s size kind e .text .each i (omega arith))
 
 -- what a task line answers
 module _ (t : Task) where
-  pub answer-wrong : (f number : ℕ) → f ≡ number → (f ≡ 0 → ⊥) → Wrong number ≡ taskAnswer t f
+  pub answer-wrong : (x number : ℕ) → x ≡ number → (x ≡ 0 → ⊥) → Wrong number ≡ taskAnswer t x
   answer-wrong zero number e some = absurd (some refl)
-  answer-wrong (suc f) number e some = ap Wrong (sym e)
+  answer-wrong (suc x) number e some = ap Wrong (sym e)
 
-  pub answer-right : (f : ℕ) → f ≡ 0 → Right t ≡ taskAnswer t f
+  answer-right : (x : ℕ) → x ≡ 0 → Right t ≡ taskAnswer t x
   answer-right zero e = refl
-  answer-right (suc f) e = absurd (let z : ⊥ = omega arith in z)
+  answer-right (suc x) e = absurd (let z : ⊥ = omega arith in z)
 
-  pub wrong-answer : (f number : ℕ) → taskAnswer t f ≡ Wrong number → (f ≡ number) × (number ≡ 0 → ⊥)
+  pub wrong-answer : (x number : ℕ) → taskAnswer t x ≡ Wrong number → (x ≡ number) × (number ≡ 0 → ⊥)
   wrong-answer zero number e = absurd (let z : _≡_ {A = ℕ} 0 1 = cc in omega arith)
-  wrong-answer (suc f) number e = let same : suc f ≡ number = cc in (same, λ z. omega arith)
+  wrong-answer (suc x) number e = let same : suc x ≡ number = cc in (same, λ z. omega arith)
 
-  pub right-answer : (f : ℕ) (r : Task) → taskAnswer t f ≡ Right r → (f ≡ 0) × (r ≡ t)
+  pub right-answer : (x : ℕ) (r : Task) → taskAnswer t x ≡ Right r → (x ≡ 0) × (r ≡ t)
   right-answer zero r e = (refl, cc)
-  right-answer (suc f) r e = absurd (let z : _≡_ {A = ℕ} 0 1 = cc in omega arith)
+  right-answer (suc x) r e = absurd (let z : _≡_ {A = ℕ} 0 1 = cc in omega arith)
 
 -- a task line whose frame is right answers its task, or the fault of its fields
-module _ (s : List ℕ) (t : Task) (right : frameFault s 15 2 ≡ 0) (e : t ≡ taskOf (fieldsPart s)) where
-  pub fields-wrong : (f : ℕ) → f ≡ taskFault t → (f ≡ 0 → ⊥)
-      → Wrong f ≡ taskAnswer (taskOf (fieldsPart s)) (taskLine s)
-  fields-wrong f g some =
-      let l : taskLine s ≡ f = task-fields-fault s f right (g ∙ ap taskFault e) in
-      answer-wrong (taskOf (fieldsPart s)) (taskLine s) f l (λ z. some (sym l ∙ z))
+module _ (f : Form) (s : List ℕ) (t : Task) (right : taskFrameFault f s ≡ 0) (e : t ≡ taskOf (fieldsPart s))
+  where
+    pub fields-wrong : (x : ℕ) → x ≡ taskFault t → (x ≡ 0 → ⊥)
+        → Wrong x ≡ taskAnswer (taskOf (fieldsPart s)) (taskLineFault f s)
+    fields-wrong x g some =
+        let l : taskLineFault f s ≡ x = task-fields-fault f s x right (g ∙ ap taskFault e) in
+        answer-wrong (taskOf (fieldsPart s)) (taskLineFault f s) x l (λ z. some (sym l ∙ z))
 
-  pub fields-right : (f : ℕ) → f ≡ taskFault t → f ≡ 0
-      → Right t ≡ taskAnswer (taskOf (fieldsPart s)) (taskLine s)
-  fields-right f g none =
-      ap Right e
-      ∙ answer-right (taskOf (fieldsPart s)) (taskLine s) (task-fields-fault s f right (g ∙ ap taskFault e)
-      ∙ none)
+    pub fields-right : (x : ℕ) → x ≡ taskFault t → x ≡ 0
+        → Right t ≡ taskAnswer (taskOf (fieldsPart s)) (taskLineFault f s)
+    fields-right x g none =
+        ap Right e
+        ∙ answer-right (taskOf (fieldsPart s)) (taskLineFault f s)
+        (task-fields-fault f s x right (g ∙ ap taskFault e) ∙ none)

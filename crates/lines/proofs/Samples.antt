@@ -8,10 +8,10 @@ use Rattle.table.specs.declared.Table.{Table}
 use Rattle.table.specs.Table.{noTask}
 use Rattle.frames.specs.Digits.{digitText}
 use Rattle.frames.specs.Frames.{frameFault}
-use Rattle.frames.specs.Text.{bytesText, wordBytes, sumOf, check, lineText}
-use Rattle.lines.specs.Fields.{headLine}
-use Rattle.lines.specs.Reads.{refused, readOf}
-use Rattle.lines.specs.Writes.{headBytes, taskBytes, tasksText, written}
+use Rattle.frames.specs.Text.{bytesText, wordBytes, bytesSum, checkByte, lineText}
+use Rattle.lines.specs.Fields.{headLineFault}
+use Rattle.lines.specs.Reads.{refused, frontBy, readOf}
+use Rattle.lines.specs.Writes.{headBytes, taskBytes, tasksText, textBy, planText}
 
 -- One core, FP, (12, 4, 12, P) and (24, 9, 18, P).
 abbrev pub sample : Table
@@ -33,10 +33,10 @@ sample-text =
     49 ∷ 10 ∷ 48 ∷ 50 ∷ 48 ∷ 49 ∷ 48 ∷ 48 ∷ 48 ∷ 48 ∷ 48 ∷ 48 ∷ 49 ∷ 56 ∷ 48 ∷ 48 ∷ 48 ∷ 48 ∷ 48 ∷ 48 ∷
     48 ∷ 57 ∷ 48 ∷ 48 ∷ 48 ∷ 48 ∷ 48 ∷ 48 ∷ 49 ∷ 50 ∷ 67 ∷ 65 ∷ 10 ∷ []
 
-pub sample-written : written sample ≡ sample-text
-unfolding written tasksText headBytes taskBytes wordBytes lineText bytesText check sumOf digitText
+pub sample-written : planText sample ≡ sample-text
+unfolding textBy tasksText headBytes taskBytes wordBytes lineText bytesText checkByte bytesSum digitText
 sample-written = refl
 
 pub empty-refused : readOf [] ≡ refused 1 1
-unfolding readOf headLine frameFault
+unfolding readOf frontBy headLineFault frameFault
 empty-refused = refl

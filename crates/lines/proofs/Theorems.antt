@@ -2,63 +2,125 @@
 --
 --   document 01                                                      theorem
 --   accepts exactly the text that a legal table is written as, and
---   returns that table, with zeros in all places past the n-th       reading-exact
---   one text, one table                                              written-only
+--   returns that table, with zeros in all places past the n-th       reading-exact, text-accepted
+--   the same of a front, whatever follows it                         front-exact
+--   one text, one table                                              text-only
 --   a refusal is given exactly when its row of the table says so     refusal-exact
---   every text has an answer, accepted or refused                    answered
---   and only one, with a number from 1 to 12                         not-both, meets-only, meets-numbers
---   a refused reading returns a table of zeros throughout            refused-zeros (and fine-written)
---   a text of n tasks has 11 + 31 n bytes                            accepted-length
---   the longest plan has 1,003 bytes                                 longest, longest-reached
+--   every text has an answer, accepted or refused                    text-cases
+--   and only one, with a number from 1 to 12, a place up to 34       text-not-both, wrong-only,
+--                                                                    wrong-numbers, wrong-places
+--   a refused reading returns a table of zeros throughout            refused-zeros
+--   a text of n tasks has 11 + 31 n bytes                            plan-length
+--   the longest plan has 1,003 bytes                                 longest-plan, longest-plan-reached
+--   so reading looks at the first 1,004 bytes only                   reading-settled, front-settled
 --
 -- Assumes nothing.
 use Prim.Native.Nat.{ℕ, _+_, _*_, _≤_}
 use native.Mathlib.Omega.{arith}
 use mathlib.Core.Path.{_≡_, refl, sym, ap, subst, _∙_}
 use mathlib.Core.Logic.{_↔_, _⊎_, inl, inr, ⊎-elim}
-use mathlib.Core.List.{List}
-use lib.ListN.{length, replicate, getD-replicate, List·getD-eq-default}
+use mathlib.Core.List.{List, [], _++_, append-nil}
+use lib.ListN.{length, take, drop, replicate, getD-replicate, List·getD-eq-default, take-append-drop}
+use lib.Seq.{take-all}
 use Rattle.table.specs.declared.Task.{Task}
 use Rattle.table.specs.declared.Table.{Table}
+use Rattle.table.specs.declared.Refusal.{Refusal}
+use Rattle.table.specs.declared.Checked.{Checked}
 use Rattle.table.specs.declared.Checked.the-variants.{Fine, Refused}
 use Rattle.table.specs.Table.{noTask, LegalTask, LegalTable}
+use Rattle.table.specs.Checks.{faulty}
+use Rattle.table.specs.Faults.{Within, HeadWrong, cores, policy, count, TaskWrong, flag, period}
+use Rattle.table.specs.Faults.{deadline, cost}
+use Rattle.frames.specs.Digits.{raised}
 use Rattle.frames.specs.Faults.{FrameWrong, short, no-digit, no-end, no-sum, no-kind}
+use Rattle.frames.proofs.DigitLaws.{raised-length}
+use Rattle.frames.proofs.AlikeLaws.{raised-alike, cut-alike}
+use Rattle.lines.specs.declared.Front.{Front}
 use Rattle.lines.specs.declared.Reading.{Reading}
-use Rattle.lines.specs.Reads.{noTable, refused, accepted, numberOf, placeOf, readOf}
-use Rattle.lines.specs.Writes.{written, ZerosPast, WrittenAs}
-use Rattle.lines.specs.Meets.{HeadWrong, cores, policy, count, TaskWrong, flag, period, deadline, cost}
-use Rattle.lines.specs.Meets.{Within, Meets, head-frame, head-fields, task-frame, task-fields, more}
+use Rattle.lines.specs.Form.{form1, lineStart}
+use Rattle.lines.specs.Reads.{noTable, refused, accepted, passed, numberOf, placeOf, frontOf, readOf}
+use Rattle.lines.specs.Writes.{planText, ZerosPast, WrittenAs, FrontAs}
+use Rattle.lines.specs.Wrong.{head-frame, head-fields, task-frame, task-fields, TextWrong}
+use Rattle.lines.specs.Wrong.{in-front, more, textCount}
+use Rattle.lines.proofs.FormLaws.{start-in-bytes}
+use Rattle.lines.proofs.ReadLaws.{plan-read}
 use Rattle.lines.proofs.RefusalLaws as refusals
+use Rattle.lines.proofs.SettledLaws as settled
 use Rattle.lines.proofs.ExactLaws as exact
 
+not-fine : {x p : ℕ} → faulty x p ≡ Fine → ⊥
+not-fine e = let z : _≡_ {A = ℕ} 0 1 = cc in omega arith
+
+-- A text is accepted exactly if, raised, it is the text of a legal table.
+
+pub text-accepted : (t : Table) → LegalTable t → ZerosPast t → readOf (planText t) ≡ accepted t
+text-accepted t legal zeros =
+    sym (plan-read (planText t) (passed t (lineStart form1 (t .n)))
+    (sym (ap frontOf (sym (append-nil (planText t))) ∙ exact.front-there t [] legal zeros))
+    refl (omega (arith, exact.plan-text-length t)))
+
+pub front-exact : (s : List ℕ) (t : Table) (end : ℕ) → (frontOf s ≡ passed t end) ↔ FrontAs s t end
+front-exact s t end = (there, back)
+  where
+    there : frontOf s ≡ passed t end → FrontAs s t end
+    there e =
+        ⊎-elim
+        (λ up.
+        subst (λ (r : Front). FrontAs s (r .table) (r .end)) (sym (refusals.front-passed up) ∙ e)
+        (exact.front-back s up))
+        (λ w. absurd (not-fine (ap (λ (r : Front). r .answer) (sym (refusals.front-stopped (w .1 .1)) ∙ e))))
+        (refusals.front-cases form1 s)
+
+    back : FrontAs s t end → frontOf s ≡ passed t end
+    back w =
+        sym (settled.front-alike (raised-alike 1003 s))
+        ∙ ap frontOf (sym (take-append-drop end (raised s)) ∙ ap (λ x. x ++ drop end (raised s)) (w .same))
+        ∙ exact.front-there t (drop end (raised s)) (w .legal) (w .zeros)
+        ∙ ap (passed t) (sym (w .ends))
+
 pub reading-exact : (s : List ℕ) (t : Table) → (readOf s ≡ accepted t) ↔ WrittenAs s t
-reading-exact s t =
-    (exact.reading-back s t, λ w. ap readOf (w .same) ∙ exact.reading-there t (w .legal) (w .zeros))
+reading-exact s t = (there, back)
+  where
+    there : readOf s ≡ accepted t → WrittenAs s t
+    there e =
+        let w = refusals.accepted-whole s t e in
+        let front = exact.front-back s (w .right) in
+        subst (WrittenAs s) (ap (λ (r : Reading). r .table) (sym (refusals.whole-accepted w) ∙ e))
+        (record {
+          legal = front .legal;
+          zeros = front .zeros;
+          same =
+              sym (take-all (lineStart form1 (textCount s)) (raised s)
+              (omega (arith, w .end, raised-length s)))
+              ∙ front .same;
+        })
 
-pub written-only : (t u : Table) → LegalTable t → ZerosPast t → LegalTable u → ZerosPast u
-    → written t ≡ written u → t ≡ u
-written-only t u lt zt lu zu e =
-    ap (λ (r : Reading). r .table) (sym (exact.reading-there t lt zt) ∙ ap readOf e
-    ∙ exact.reading-there u lu zu)
+    back : WrittenAs s t → readOf s ≡ accepted t
+    back w =
+        sym (settled.reading-alike (raised-alike 1004 s))
+        ∙ ap readOf (w .same)
+        ∙ text-accepted t (w .legal) (w .zeros)
 
-pub refusal-exact : (s : List ℕ) (f p : ℕ) → (readOf s ≡ refused f p) ↔ Meets s f p
-refusal-exact s f p = (refusals.refused-meets s f p, refusals.meets-refused)
+pub text-only : (t u : Table) → LegalTable t → ZerosPast t → LegalTable u → ZerosPast u
+    → planText t ≡ planText u → t ≡ u
+text-only t u lt zt lu zu e =
+    ap (λ (r : Reading). r .table) (sym (text-accepted t lt zt) ∙ ap readOf e ∙ text-accepted u lu zu)
+
+pub refusal-exact : (s : List ℕ) (x p : ℕ) → (readOf s ≡ refused x p) ↔ TextWrong s x p
+refusal-exact s x p = (refusals.refused-wrong s x p, refusals.wrong-refused)
 
 -- Exactly one of accepted, 1, .., 12.
 
-pub answered : (s : List ℕ) → ((t : Table) × WrittenAs s t) ⊎ ((f : ℕ) × ((p : ℕ) × Meets s f p))
-answered s =
-    ⊎-elim (λ w. inl (_, exact.reading-back s _ (refusals.whole-accepted w))) (λ m. inr m)
-    (refusals.reading-cases s)
+pub text-cases : (s : List ℕ) → ((t : Table) × WrittenAs s t) ⊎ ((x : ℕ) × ((p : ℕ) × TextWrong s x p))
+text-cases s =
+    ⊎-elim (λ w. inl (_, reading-exact s _ .0 (refusals.whole-accepted w))) (λ m. inr m)
+    (refusals.whole-cases s)
 
-pub not-both : {s : List ℕ} {t : Table} {f p : ℕ} → WrittenAs s t → Meets s f p → ⊥
-not-both {s} {t} w m = refusals.not-both (sym (reading-exact s t .1 w) ∙ refusals.meets-refused m)
+pub text-not-both : {s : List ℕ} {t : Table} {x p : ℕ} → WrittenAs s t → TextWrong s x p → ⊥
+text-not-both {s} {t} w m = refusals.not-refused (sym (reading-exact s t .1 w) ∙ refusals.wrong-refused m)
 
-pub meets-only : {s : List ℕ} {f p g q : ℕ} → Meets s f p → Meets s g q → (f ≡ g) × (p ≡ q)
-meets-only m k = refusals.same-refusal (sym (refusals.meets-refused m) ∙ refusals.meets-refused k)
-
-not-fine : {f p : ℕ} → Refused f p ≡ Fine → ⊥
-not-fine e = let z : _≡_ {A = ℕ} 0 1 = cc in omega arith
+pub wrong-only : {s : List ℕ} {x p y q : ℕ} → TextWrong s x p → TextWrong s y q → (x ≡ y) × (p ≡ q)
+wrong-only m k = refusals.same-refusal (sym (refusals.wrong-refused m) ∙ refusals.wrong-refused k)
 
 frame-numbers : {s : List ℕ} {size kind f : ℕ} → FrameWrong s size kind f → Within 1 12 f
 frame-numbers (short h) = (omega arith, omega arith)
@@ -78,61 +140,78 @@ task-numbers (period a o) = (omega arith, omega arith)
 task-numbers (deadline a b o) = (omega arith, omega arith)
 task-numbers (cost a b d o) = (omega arith, omega arith)
 
-pub meets-numbers : {s : List ℕ} {f p : ℕ} → Meets s f p → Within 1 12 f
-meets-numbers (head-frame w) = frame-numbers w
-meets-numbers (head-fields r w) = head-numbers w
-meets-numbers (task-frame i up l w) = frame-numbers w
-meets-numbers (task-fields i up l r w) = task-numbers w
-meets-numbers (more up l) = (omega arith, omega arith)
+pub wrong-numbers : {s : List ℕ} {x p : ℕ} → TextWrong s x p → Within 1 12 x
+wrong-numbers (in-front (head-frame w)) = frame-numbers w
+wrong-numbers (in-front (head-fields r w)) = head-numbers w
+wrong-numbers (in-front (task-frame i up l w)) = frame-numbers w
+wrong-numbers (in-front (task-fields i up l r w)) = task-numbers w
+wrong-numbers (more up l) = (omega arith, omega arith)
 
--- By the answer alone: an accepted text is the text of its table, a refused reading returns zeros throughout.
+pub wrong-places : {s : List ℕ} {x p : ℕ} → TextWrong s x p → p ≤ 34
+wrong-places (in-front (head-frame w)) = omega arith
+wrong-places (in-front (head-fields r w)) = omega arith
+wrong-places (in-front (task-frame i up l w)) = omega (arith, up .head .fields .count)
+wrong-places (in-front (task-fields i up l r w)) = omega (arith, up .head .fields .count)
+wrong-places (more up l) = omega (arith, up .head .fields .count)
 
-pub fine-written : (s : List ℕ) → readOf s .answer ≡ Fine → WrittenAs s (readOf s .table)
-fine-written s e =
-    ⊎-elim
-    (λ w.
-    let e : readOf s ≡ accepted (w .0) = reading-exact s (w .0) .1 (w .1) in
-    subst (WrittenAs s) (ap (λ (r : Reading). r .table) (sym e)) (w .1))
-    (λ m. absurd (not-fine (ap (λ (r : Reading). r .answer) (sym (refusals.meets-refused (m .1 .1))) ∙ e)))
-    (answered s)
+-- By the answer alone: a refused reading returns zeros throughout.
 
-pub refused-zeros : (s : List ℕ) (f p : ℕ) → readOf s .answer ≡ Refused f p
-    → (readOf s .table ≡ noTable) × Meets s f p
-refused-zeros s f p e =
+pub refused-zeros : (s : List ℕ) (x p : ℕ) → readOf s .answer ≡ faulty x p
+    → (readOf s .table ≡ noTable) × TextWrong s x p
+refused-zeros s x p e =
     ⊎-elim
     (λ w. absurd (not-fine (sym e ∙ ap (λ (r : Reading). r .answer) (reading-exact s (w .0) .1 (w .1)))))
     (λ m.
-    let r : readOf s ≡ refused (m .0) (m .1 .0) = refusals.meets-refused (m .1 .1) in
-    let a : Refused (m .0) (m .1 .0) ≡ Refused f p = ap (λ (r : Reading). r .answer) (sym r) ∙ e in (
+    let r : readOf s ≡ refused (m .0) (m .1 .0) = refusals.wrong-refused (m .1 .1) in
+    let a : faulty (m .0) (m .1 .0) ≡ faulty x p = ap (λ (r : Reading). r .answer) (sym r) ∙ e in (
       ap (λ (r : Reading). r .table) r,
-      subst (λ q. Meets s f q) (ap placeOf a) (subst (λ g. Meets s g (m .1 .0)) (ap numberOf a) (m .1 .1)),
+      subst (λ q. TextWrong s x q) (ap placeOf a)
+          (subst (λ y. TextWrong s y (m .1 .0)) (ap numberOf a) (m .1 .1)),
     ))
-    (answered s)
+    (text-cases s)
+
+-- And what is fine is a legal table; a refusal's number and place are small.
+
+pub read-legal : (s : List ℕ) → readOf s .answer ≡ Fine → LegalTable (readOf s .table)
+read-legal s e = reading-exact s (readOf s .table) .0 (ap whole e) .legal
+  where
+    whole : Checked → Reading
+    whole a = record { answer = a; table = readOf s .table }
+
+pub refused-small : (s : List ℕ) {why : Refusal} → readOf s .answer ≡ Refused why
+    → (why .number ≤ 12) × (why .place ≤ 34)
+refused-small s {why} e =
+    let w : TextWrong s (why .number) (why .place) = refused-zeros s (why .number) (why .place) e .1 in
+    (wrong-numbers w .1, wrong-places w)
 
 -- The lengths of the texts that are accepted.
 
-pub accepted-length : (s : List ℕ) (t : Table) → readOf s ≡ accepted t → length s ≡ 11 + 31 * t .n
-accepted-length s t e = ap length (exact.reading-back s t e .same) ∙ exact.written-length t
+pub plan-length : (s : List ℕ) (t : Table) → readOf s ≡ accepted t → length s ≡ 11 + 31 * t .n
+plan-length s t e =
+    sym (raised-length s)
+    ∙ ap length (reading-exact s t .0 e .same)
+    ∙ exact.plan-text-length t
+    ∙ start-in-bytes (t .n)
 
-pub longest : (s : List ℕ) (t : Table) → readOf s ≡ accepted t → length s ≤ 1003
-longest s t e = omega (arith, accepted-length s t e, exact.reading-back s t e .legal .count)
+pub longest-plan : (s : List ℕ) (t : Table) → readOf s ≡ accepted t → length s ≤ 1003
+longest-plan s t e = omega (arith, plan-length s t e, reading-exact s t .0 e .legal .count)
 
-pub least-task : Task
-least-task = record { flag = 0; period = 1; cost = 1; deadline = 1 }
+pub leastTask : Task
+leastTask = record { flag = 0; period = 1; cost = 1; deadline = 1 }
 
-pub full : Table
-full = record { cores = 1; policy = 0; n = 32; tasks = replicate 32 least-task }
+pub longestTable : Table
+longestTable = record { cores = 1; policy = 0; n = 32; tasks = replicate 32 leastTask }
 
-full-legal : LegalTable full
-unfolding full least-task
-full-legal = record {
+longest-legal : LegalTable longestTable
+unfolding longestTable leastTask
+longest-legal = record {
   some-core = omega arith;
   cores = omega arith;
   policy = omega arith;
   some-task = omega arith;
   count = omega arith;
   each = λ i l.
-      subst LegalTask (sym (getD-replicate 32 i least-task noTask l))
+      subst LegalTask (sym (getD-replicate 32 i leastTask noTask l))
       (record {
         flag = omega arith;
         period = omega arith;
@@ -142,11 +221,26 @@ full-legal = record {
       });
 }
 
-full-zeros : ZerosPast full
-unfolding full
-full-zeros = record { places = refl; zeros = λ i l. List·getD-eq-default (replicate 32 least-task) noTask l }
+longest-zeros : ZerosPast longestTable
+unfolding longestTable
+longest-zeros = record {
+  places = refl;
+  zeros = λ i l. List·getD-eq-default (replicate 32 leastTask) noTask l;
+}
 
 -- a plan of 1,003 bytes is accepted
-pub longest-reached : (length (written full) ≡ 1003) × (readOf (written full) ≡ accepted full)
-unfolding full
-longest-reached = (exact.written-length full, exact.reading-there full full-legal full-zeros)
+pub longest-plan-reached : (length (planText longestTable) ≡ 1003)
+    × (readOf (planText longestTable) ≡ accepted longestTable)
+unfolding longestTable
+longest-plan-reached = (
+  exact.plan-text-length longestTable ∙ start-in-bytes 32,
+  text-accepted longestTable longest-legal longest-zeros,
+)
+
+-- What is read is settled by the first bytes of a text: its front by 1,003, its reading by 1,004.
+
+pub front-settled : (s : List ℕ) → frontOf (take 1003 s) ≡ frontOf s
+front-settled s = settled.front-alike (cut-alike 1003 s)
+
+pub reading-settled : (s : List ℕ) → readOf (take 1004 s) ≡ readOf s
+reading-settled s = settled.reading-alike (cut-alike 1004 s)

@@ -1,11 +1,13 @@
--- Two results that a promise allows are equal, for each public function here: its promise is one equation.
+-- Any two results that the promise of a public function of this crate allows are equal.
 -- Assumes nothing.
-use Prim.Native.Nat.{ℕ}
-use mathlib.Core.Path.{_≡_}
-use mathlib.Core.List.{List}
-use Rattle.lines.specs.declared.Reading.{Reading}
-use Rattle.lines.specs.Reads.{readOf}
-use Rattle.frames.proofs.Unique.{one-result}
+use Rattle.base.proofs.Unique.{only, Only}
+use Rattle.lines.proofs.read_front.Kinds as read-front
+use Rattle.lines.proofs.read_front.Reads as read-front-reads
+use Rattle.lines.proofs.read_plan.Kinds as read-plan
+use Rattle.lines.proofs.read_plan.Reads as read-plan-reads
 
-pub read-plan-only : (text : List ℕ) (r r′ : Reading) → r ≡ readOf text → r′ ≡ readOf text → r ≡ r′
-read-plan-only text r r′ = one-result
+pub read-front-only : Only 1 read-front.ps read-front.r read-front-reads.Post
+read-front-only κs a x y s s′ p q = only p q
+
+pub read-plan-only : Only 1 read-plan.ps read-plan.r read-plan-reads.Post
+read-plan-only κs a x y s s′ p q = only p q

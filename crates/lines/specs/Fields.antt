@@ -1,41 +1,30 @@
 -- Document 01, "The plan lines": a line's fields, from the part after its kind byte, and its first fault.
 --
 --   document 01                                              here
---   head line: 5 bytes, kind 01                              headSize, headKind
---   task line: 15 bytes, kind 02                             taskSize, taskKind
 --   the part after the kind byte                             fieldsPart s
 --   cores, policy, n                                         headOf p: a table with no task yet
 --   flag, T, C, D (4 bytes each)                             taskOf p
---   1, 2, 3, 4, then 5, 6, 7 (in a task 8, 9, 10, 11)        headLine s, taskLine s; 0 for none
---   the text from the line of task i (from 0) on             taskText s i
---   what the head line and task i's line say                 headIn s, taskIn s i, lineFault s i
+--   1, 2, 3, 4 of the due line's frame                       headFrameFault f s, taskFrameFault f s
+--   then 5, 6, 7 (in a task 8, 9, 10, 11)                    headLineFault f s, taskLineFault f s; 0 for none
+--   the text from the line of task i (from 0) on             taskText f s i
+--   what the head line and task i's line say                 textHead s, textTask f s i, lineFault f s i
 --
--- Assumes nothing.
-use Prim.Native.Nat.{ℕ, zero, suc, _+_, _*_}
+-- f is the form of the plan. Assumes nothing.
+use Prim.Native.Nat.{ℕ, suc}
 use mathlib.Core.List.{List}
 use lib.ListN.{drop, replicate}
+use Rattle.base.specs.Choice.{orElse}
 use Rattle.table.specs.declared.Task.{Task}
 use Rattle.table.specs.declared.Table.{Table}
 use Rattle.table.specs.Table.{noTask}
-use Rattle.table.specs.Checks.{headFault, taskFault}
+use Rattle.table.specs.Checks.{headFaultOf, taskFault}
 use Rattle.frames.specs.Digits.{byteAt, wordAt}
 use Rattle.frames.specs.Frames.{frameFault}
+use Rattle.lines.specs.declared.Form.{Form}
+use Rattle.lines.specs.Form.{lineStart}
 
-abbrev pub headSize : ℕ
-headSize = 5
-
-abbrev pub taskSize : ℕ
-taskSize = 15
-
-abbrev pub headKind : ℕ
-headKind = 1
-
-abbrev pub taskKind : ℕ
-taskKind = 2
-
--- a head line and its 0A have 11 bytes, a task line and its 0A 31
-abbrev pub taskText : List ℕ → ℕ → List ℕ
-taskText s i = drop (11 + 31 * i) s
+abbrev pub taskText : Form → List ℕ → ℕ → List ℕ
+taskText f s i = drop (lineStart f i) s
 
 abbrev pub fieldsPart : List ℕ → List ℕ
 fieldsPart s = drop 2 s
@@ -47,27 +36,25 @@ unfoldable pub taskOf : List ℕ → Task
 taskOf p = record { flag = byteAt p 0; period = wordAt p 1; cost = wordAt p 5; deadline = wordAt p 9 }
 
 -- the head of a text, and its task i (from 0)
-abbrev pub headIn : List ℕ → Table
-headIn s = headOf (fieldsPart s)
+abbrev pub textHead : List ℕ → Table
+textHead s = headOf (fieldsPart s)
 
-abbrev pub taskIn : List ℕ → ℕ → Task
-taskIn s i = taskOf (fieldsPart (taskText s i))
+abbrev pub textTask : Form → List ℕ → ℕ → Task
+textTask f s i = taskOf (fieldsPart (taskText f s i))
 
--- the fault that is met first
-abbrev pub first : ℕ → ℕ → ℕ
-first zero b = b
-first (suc a) b = suc a
+abbrev pub headFrameFault : Form → List ℕ → ℕ
+headFrameFault f s = frameFault s (f .head .size) (f .head .kind)
 
--- 5, 6, 7 of a head's numbers
-abbrev pub headFaultOf : Table → ℕ
-headFaultOf h = headFault (h .cores) (h .policy) (h .n)
+abbrev pub taskFrameFault : Form → List ℕ → ℕ
+taskFrameFault f s = frameFault s (f .task .size) (f .task .kind)
 
-unfoldable pub headLine : List ℕ → ℕ
-headLine s = first (frameFault s headSize headKind) (headFaultOf (headIn s))
+-- the frame's fault, or else that of the fields
+unfoldable pub headLineFault : Form → List ℕ → ℕ
+headLineFault f s = orElse (headFrameFault f s) (headFaultOf (textHead s)) suc
 
-unfoldable pub taskLine : List ℕ → ℕ
-taskLine s = first (frameFault s taskSize taskKind) (taskFault (taskOf (fieldsPart s)))
+unfoldable pub taskLineFault : Form → List ℕ → ℕ
+taskLineFault f s = orElse (taskFrameFault f s) (taskFault (taskOf (fieldsPart s))) suc
 
 -- the fault of task i's line
-abbrev pub lineFault : List ℕ → ℕ → ℕ
-lineFault s i = taskLine (taskText s i)
+abbrev pub lineFault : Form → List ℕ → ℕ → ℕ
+lineFault f s i = taskLineFault f (taskText f s i)

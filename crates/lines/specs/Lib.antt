@@ -1,4 +1,5 @@
+pub mod Form
 pub mod Fields
 pub mod Reads
 pub mod Writes
-pub mod Meets
+pub mod Wrong

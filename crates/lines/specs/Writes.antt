@@ -1,36 +1,43 @@
 -- Document 01, "The plan lines": the text of a table.
 --
 --   document 01                                          here
---   head line: 01, cores, policy, n, check               lineText (headBytes t)
---   task line: 02, flag, T, C, D, check                  lineText (taskBytes t)
---   the head line, then n task lines                     written t
+--   head line: 01, cores, policy, n, check               lineText (headBytes f t)
+--   task line: 02, flag, T, C, D, check                  lineText (taskBytes f t)
+--   the head line, then n task lines                     textBy f t; planText t in document 01's form
 --   zeros in all places past the n-th                    ZerosPast t
---   the text that a legal table is written as            WrittenAs s t
+--   the text that a legal table is written as            WrittenAs s t: s, raised, is that text
+--   a text that starts with it, up to its end            FrontAs s t end
 --
--- Assumes nothing.
+-- f is the form of the plan. Assumes nothing.
 use Prim.Native.Nat.{ℕ, zero, suc, _≤_}
 use mathlib.Core.Path.{_≡_}
 use mathlib.Core.List.{List, [], _∷_, _++_}
-use lib.ListN.{length}
+use lib.ListN.{length, take}
 use Rattle.table.specs.declared.Task.{Task}
 use Rattle.table.specs.declared.Table.{Table}
 use Rattle.table.specs.Table.{noTask, taskAt, LegalTable}
+use Rattle.frames.specs.Digits.{raised}
 use Rattle.frames.specs.Text.{wordBytes, lineText}
-use Rattle.lines.specs.Fields.{headKind, taskKind}
+use Rattle.lines.specs.declared.Form.{Form}
+use Rattle.lines.specs.Form.{form1, lineStart}
 
-unfoldable pub headBytes : Table → List ℕ
-headBytes t = headKind ∷ t .cores ∷ t .policy ∷ t .n ∷ []
+unfoldable pub headBytes : Form → Table → List ℕ
+headBytes f t = f .head .kind ∷ t .cores ∷ t .policy ∷ t .n ∷ []
 
-unfoldable pub taskBytes : Task → List ℕ
-taskBytes t = taskKind ∷ t .flag ∷ (wordBytes (t .period) ++ (wordBytes (t .cost) ++ wordBytes (t .deadline)))
+unfoldable pub taskBytes : Form → Task → List ℕ
+taskBytes f t =
+    f .task .kind ∷ t .flag ∷ (wordBytes (t .period) ++ (wordBytes (t .cost) ++ wordBytes (t .deadline)))
 
 -- the lines of the first k tasks
-unfoldable pub tasksText : List Task → ℕ → List ℕ
-tasksText ts zero = []
-tasksText ts (suc k) = tasksText ts k ++ lineText (taskBytes (taskAt ts k))
+unfoldable pub tasksText : Form → List Task → ℕ → List ℕ
+tasksText f ts zero = []
+tasksText f ts (suc k) = tasksText f ts k ++ lineText (taskBytes f (taskAt ts k))
 
-unfoldable pub written : Table → List ℕ
-written t = lineText (headBytes t) ++ tasksText (t .tasks) (t .n)
+unfoldable pub textBy : Form → Table → List ℕ
+textBy f t = lineText (headBytes f t) ++ tasksText f (t .tasks) (t .n)
+
+abbrev pub planText : Table → List ℕ
+planText t = textBy form1 t
 
 pub record ZerosPast (t : Table) : Type 0 where
   pub places : length (t .tasks) ≡ 32
@@ -39,4 +46,10 @@ pub record ZerosPast (t : Table) : Type 0 where
 pub record WrittenAs (s : List ℕ) (t : Table) : Type 0 where
   pub legal : LegalTable t
   pub zeros : ZerosPast t
-  pub same : s ≡ written t
+  pub same : raised s ≡ planText t
+
+pub record FrontAs (s : List ℕ) (t : Table) (end : ℕ) : Type 0 where
+  pub legal : LegalTable t
+  pub zeros : ZerosPast t
+  pub ends : end ≡ lineStart form1 (t .n)
+  pub same : take end (raised s) ≡ planText t

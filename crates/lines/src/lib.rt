@@ -1,14 +1,36 @@
 // Reading a plan: line by line, from any bytes, to a table by value or the first fault with its place.
 use table::Checked;
+use table::NO_TASK;
+use table::Refusal;
 use table::Table;
 use table::Task;
 ghost use mathlib.Core.Path.{_≡_};
 ghost use Prim.Native.Nat.{_≤_};
-ghost use lib.ListN.{length, replicate};
-ghost use Rattle.table.specs.Table.{noTask};
+ghost use lib.ListN.{length};
 ghost use Rattle.frames.specs.Digits.{Digits};
+ghost use Rattle.lines.specs.Form.{FormSized};
 ghost use Rattle.lines.specs.Fields.{headOf, taskOf};
-ghost use Rattle.lines.specs.Reads.{refused, taskRead, tasksRead, readOf};
+ghost use Rattle.lines.specs.Reads.{refused, stopped, taskRead, TasksDue, tasksRead, frontOf, readOf};
+
+// The kind of a frame, and its bytes with kind and check.
+pub struct Frame {
+    pub kind: u32,
+    pub size: usize,
+}
+
+// The form of a plan: the frames of its lines.
+pub struct Form {
+    pub head: Frame,
+    pub task: Frame,
+}
+
+// The front of a text: fine with the table of its head and task lines and the place where they end, or the
+// first fault with its place, a table of zeros and the end 0.
+pub struct Front {
+    pub answer: Checked,
+    pub table: Table,
+    pub end: usize,
+}
 
 // Fine with the table that was read, or the first fault with its place and a table of zeros.
 pub struct Reading {
@@ -22,40 +44,41 @@ enum TaskLine {
     Wrong(u32),
 }
 
-// The bytes of a frame, its kind, and the bytes of its line: two digits to a byte and the 0A.
-const HEAD_SIZE: usize = 5;
-
-const HEAD_KIND: u32 = 1;
-
-const HEAD_LINE: usize = 11;
-
-const TASK_SIZE: usize = 15;
-
-const TASK_KIND: u32 = 2;
-
-const TASK_LINE: usize = 31;
-
-const NO_TASK: Task = Task {
-    flag: 0,
-    period: 0,
-    cost: 0,
-    deadline: 0,
+// Document 01's form.
+const FORM1: Form = Form {
+    head: Frame { kind: 1, size: 5 },
+    task: Frame { kind: 2, size: 15 },
 };
+
+const NO_TABLE: Table = Table {
+    cores: 0,
+    policy: 0,
+    n: 0,
+    tasks: [NO_TASK; 32],
+};
+
+fn stopped(number: u32, place: u32) -> Front
+    ensures { λ r. ⌜ r ≡ stopped number place ⌝ }
+{
+    Front {
+        answer: Checked::Refused(Refusal {
+            number: number,
+            place: place,
+        }),
+        table: NO_TABLE,
+        end: 0,
+    }
+}
 
 fn refused(number: u32, place: u32) -> Reading
     ensures { λ r. ⌜ r ≡ refused number place ⌝ }
 {
     Reading {
-        answer: Checked::Refused {
+        answer: Checked::Refused(Refusal {
             number: number,
             place: place,
-        },
-        table: Table {
-            cores: 0,
-            policy: 0,
-            n: 0,
-            tasks: [NO_TASK; 32],
-        },
+        }),
+        table: NO_TABLE,
     }
 }
 
@@ -89,10 +112,11 @@ fn task_fields(part: &[u8]) -> Task
 }
 
 // The task line that the text starts with: its frame, then its fields.
-fn read_task(text: &[u8]) -> TaskLine
-    ensures { λ r. ⌜ r ≡ taskRead (now (text .entry)) ⌝ }
+fn read_task(text: &[u8], form: Form) -> TaskLine
+    requires { ⌜ FormSized form ⌝ }
+    ensures { λ r. ⌜ r ≡ taskRead form (now (text .entry)) ⌝ }
 {
-    let wrong = frames::frame_fault(text, TASK_SIZE, TASK_KIND);
+    let wrong = frames::frame_fault(text, form.task.size, form.task.kind);
     if wrong != 0 {
         return TaskLine::Wrong(wrong);
     }
@@ -104,51 +128,76 @@ fn read_task(text: &[u8]) -> TaskLine
     TaskLine::Right(task)
 }
 
-// The task lines after the head line, then the end of the text.
-fn read_tasks(text: &[u8], head: Table) -> Reading
-    requires { ⌜ (11 ≤ length (now text)) × ((head .n ≤ 32) × (head .tasks ≡ replicate 32 noTask)) ⌝ }
-    ensures { λ r. ⌜ r ≡ tasksRead (now (text .entry)) head ⌝ }
+// The task lines after the head line.
+fn read_tasks(text: &[u8], form: Form, head: Table) -> Front
+    requires { ⌜ TasksDue form (now text) head ⌝ }
+    ensures { λ r. ⌜ r ≡ tasksRead form (now (text .entry)) head ⌝ }
 {
     let n = head.n;
+    let line = 2 * form.task.size + 1;
     let mut table = head;
     let mut i: usize = 0;
-    let mut at = HEAD_LINE;
+    let mut at = 2 * form.head.size + 1;
     let mut place: u32 = 2;
     while i < n {
-        let line = read_task(&text[at..]);
-        match line {
+        let found = read_task(&text[at..], form);
+        match found {
             TaskLine::Wrong(number) => {
-                return refused(number, place);
+                return stopped(number, place);
             }
             TaskLine::Right(task) => {
                 table.tasks[i] = task;
             }
         }
         i += 1;
-        at += TASK_LINE;
+        at += line;
         place += 1;
     }
-    if at < text.len() {
-        return refused(12, place);
-    }
-    Reading {
+    Front {
         answer: Checked::Fine,
         table: table,
+        end: at,
     }
+}
+
+// The plan that a text starts with; what follows it is not looked at.
+pub fn read_front(text: &[u8]) -> Front
+    ensures { λ r. ⌜ r ≡ frontOf (now (text .entry)) ⌝ }
+{
+    let form = FORM1;
+    let wrong = frames::frame_fault(text, form.head.size, form.head.kind);
+    if wrong != 0 {
+        return stopped(wrong, 1);
+    }
+    let head = head_fields(&text[2..]);
+    let fault = table::head_fault(head.cores, head.policy, head.n);
+    if fault != 0 {
+        return stopped(fault, 1);
+    }
+    read_tasks(text, form, head)
 }
 
 // Every byte string is answered: accepted with its table, or the first fault.
 pub fn read_plan(text: &[u8]) -> Reading
     ensures { λ r. ⌜ r ≡ readOf (now (text .entry)) ⌝ }
 {
-    let wrong = frames::frame_fault(text, HEAD_SIZE, HEAD_KIND);
-    if wrong != 0 {
-        return refused(wrong, 1);
+    let front = read_front(text);
+    let table = front.table;
+    let place = table.n as u32 + 2;
+    let answer = front.answer;
+    match answer {
+        Checked::Refused(fault) => Reading {
+            answer: Checked::Refused(fault),
+            table: table,
+        },
+        Checked::Fine => {
+            if front.end < text.len() {
+                return refused(12, place);
+            }
+            Reading {
+                answer: Checked::Fine,
+                table: table,
+            }
+        }
     }
-    let head = head_fields(&text[2..]);
-    let fault = table::head_fault(head.cores, head.policy, head.n);
-    if fault != 0 {
-        return refused(fault, 1);
-    }
-    read_tasks(text, head)
 }

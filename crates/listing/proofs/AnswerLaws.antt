@@ -1,120 +1,91 @@
--- What an accepted plan is: its table is legal, its bounds are at most 1,000,000, at most 32 tasks are
--- forced, in at most 33 passes. By the definition of forcing and the model's laws: a bound is at most D, and
--- the passes are at most n + 1.
--- Assumes nothing.
+-- The listing of a legal table fits: an accepted table's bounds are at most 1,000,000, at most 32 of its
+-- tasks are forced, in at most 33 passes; a refusal's place is at most 32. By the model's laws: a bound is at
+-- most D, and the passes are at most n + 1. Assumes nothing.
 use Prim.Native.Nat.{ℕ, zero, suc, _≤_, _<_}
 use native.Mathlib.Omega.{arith}
-use mathlib.Core.Path.{_≡_, refl, ap, _∙_}
+use mathlib.Core.Path.{refl}
+use mathlib.Core.Bool.{true}
 use mathlib.Core.List.{List}
-use Rattle.model.specs.Sums.{sumTo}
-use Rattle.model.specs.Bound.{bound}
-use Rattle.model.specs.Forcing.{at, run, force}
-use Rattle.model.proofs.SumLaws.{sum-cap}
+use lib.ListN.{length}
+use lib.Dec.{eqb}
+use Rattle.base.specs.Choice.{orElse}
+use Rattle.base.specs.Rows.{at}
+use Rattle.base.proofs.SumLaws.{sum-cap}
+use Rattle.base.proofs.FirstLaws.{first-small}
+use Rattle.base.proofs.RowLaws.{row-at}
+use Rattle.model.specs.Forcing.{lowest}
 use Rattle.model.proofs.BoundLaws.{bound-range}
-use Rattle.model.proofs.ForcingLaws.{test-at, run-bounds, run-passes}
+use Rattle.model.proofs.DemandLaws.{forced-passes}
 use Rattle.table.specs.Table.{systemOf, flagsOf, LegalTable}
+use Rattle.table.specs.Checks.{refusal}
 use Rattle.table.specs.declared.Table.{Table}
-use Rattle.table.specs.declared.Checked.{Checked}
-use Rattle.table.specs.declared.Checked.the-variants.{Fine, Refused as Faulty}
-use Rattle.forcing.specs.Answers.{forcedOf}
-use Rattle.lines.specs.Reads.{readOf}
-use Rattle.answer.specs.declared.Record.{Record}
-use Rattle.answer.specs.declared.Done.{Done}
-use Rattle.answer.specs.declared.Job.the-variants.{Force}
-use Rattle.answer.specs.declared.Answer.the-variants.{Accepted}
-use Rattle.answer.specs.Records.{noRecord, recordAt, recordsOf}
-use Rattle.answer.specs.Done.{
-  finish,
-  refuse,
-  byFailing,
-  failing,
-  forcedMarks,
-  forceDone,
-  tableDone,
-  unlessFaulty,
-  planDone,
-}
-use Rattle.answer.proofs.RowLaws.{row-at}
-use Rattle.answer.proofs.RecordLaws.{row-holds, flags-at, changed-small}
-use Rattle.answer.proofs.EntryLaws.{table-force, read-fine-legal}
-use Rattle.listing.proofs.FitLaws.{Short}
+use Rattle.flags.proofs.FlagLaws.{changed-small}
+use Rattle.planner.specs.declared.Record.{Record}
+use Rattle.planner.specs.declared.Done.{Done}
+use Rattle.planner.specs.declared.Job.the-variants.{Force}
+use Rattle.planner.specs.Answers.{given, noRecord, recordsOf, changes}
+use Rattle.planner.specs.Done.{finish, refuse, sent, final, ended, countForced, failing, forceDone, legalDone}
+use Rattle.planner.proofs.LegalLaws.{ended-at}
+use Rattle.planner.proofs.StageLaws.{timed, flagged}
+use Rattle.listing.specs.Listing.{answerText, listingRoom}
+use Rattle.listing.proofs.FitLaws.{Short, accepted-fits, refusal-fits}
 
 module _ (t : Table) (legal : LegalTable t) where
-  flags-small : (i : ℕ) → i < t .n → at (flagsOf t) i ≤ 1
-  flags-small i lt = omega (arith, flags-at t i lt, legal .each i lt .flag)
-
-  pub passes-small : forcedOf t .passes ≤ 33
-  unfolding forcedOf force
+  passes-small : final t .passes ≤ 33
   passes-small =
       omega (
         arith,
-        run-passes (systemOf t) (t .n) (flagsOf t) 0,
-        sum-cap (at (flagsOf t)) 1 (t .n) flags-small,
+        forced-passes (systemOf t) (timed legal) (flagsOf t) (flagged legal),
+        sum-cap (sent t) 1 (t .n) (flagged legal),
         legal .count,
       )
 
-  bounds-small : (i : ℕ) → i < t .n → at (forcedOf t .bounds) i ≤ 1000000
-  unfolding forcedOf force
+  bounds-small : (i : ℕ) → i < t .n → at (final t .bounds) i ≤ 1000000
   bounds-small i lt =
-      let end = run (systemOf t) (t .n) (flagsOf t) 0 in
       let h = legal .each i lt in
       omega (
         arith,
-        row-holds (end .bounds) i (omega (arith, legal .count))
-            ∙ ap (λ x. at x i) (run-bounds (systemOf t) (t .n) (flagsOf t) 0)
-            ∙ test-at (systemOf t) (end .flags) i lt,
-        bound-range (systemOf t) (at (end .flags)) i (h .some) (h .cost) .1,
+        ended-at t i lt,
+        bound-range (systemOf t) (ended t) i (h .some) (h .cost) .1,
         h .deadline,
         h .period,
       )
 
-  forced-few : sumTo (forcedMarks t) (t .n) ≤ 32
+  forced-few : countForced t ≤ 32
   forced-few =
-      omega (arith, sum-cap (forcedMarks t) 1 (t .n) (λ i lt. changed-small _ _), legal .count)
+      omega (
+        arith,
+        sum-cap (changes (sent t) (ended t)) 1 (t .n) (λ i lt. changed-small _ _ refl),
+        legal .count,
+      )
 
   -- the records of an accepted table
-  abbrev pub finalRecords : List Record
-  finalRecords = recordsOf (t .n) (at (forcedOf t .flags)) (forcedMarks t) (at (forcedOf t .bounds))
+  abbrev finalRecords : List Record
+  finalRecords = recordsOf (t .n) (ended t) (changes (sent t) (ended t)) (at (final t .bounds))
 
-  records-short : (i : ℕ) → i < t .n → recordAt finalRecords i .bound ≤ 1000000
-  records-short i lt = rw (row-at noRecord _ (t .n) i lt (legal .count)) (bounds-small i lt)
+  accepted-short : Short t finalRecords (countForced t) (final t .passes)
+  accepted-short = record {
+    legal = legal;
+    bounds = λ i lt. rw (row-at noRecord _ (t .n) i lt (legal .count)) (bounds-small i lt);
+    few = forced-few;
+    soon = passes-small;
+  }
+
+  failing-small : failing t (final t .bounds) ≤ 32
+  unfolding lowest
+  failing-small = omega (arith, first-small (λ k. eqb (at (final t .bounds) k) 0) (t .n), legal .count)
 
   -- by the lowest task without a bound
-  abbrev pub ending : ℕ → Done
+  abbrev ending : ℕ → Done
   ending k =
-      byFailing k
-      (finish (t .n) (Accepted (sumTo (forcedMarks t) (t .n)) (forcedOf t .passes)) finalRecords)
-      (λ j. refuse 14 j (forcedOf t .passes))
+      orElse k (finish (t .n) (given true (countForced t) (final t .passes)) finalRecords)
+      (λ j. refuse (refusal 14 (suc j)) (final t .passes))
 
-  force-short : (forced passes : ℕ) → forceDone t .answer ≡ Accepted forced passes
-      → Short t (forceDone t .recs) forced passes
-  unfolding forceDone
-  force-short forced passes e = go (failing t (forcedOf t .bounds)) e
+  pub legal-fits : length (answerText t (legalDone t Force .recs) (legalDone t Force .answer)) ≤ listingRoom
+  unfolding legalDone forceDone
+  legal-fits = go (failing t (final t .bounds)) failing-small
     where
-      go : (k : ℕ) → ending k .answer ≡ Accepted forced passes → Short t (ending k .recs) forced passes
-      go zero e = record {
-        legal = legal;
-        bounds = records-short;
-        few = let x : sumTo (forcedMarks t) (t .n) ≡ forced = cc in omega (arith, x, forced-few);
-        soon = let x : forcedOf t .passes ≡ passes = cc in omega (arith, x, passes-small);
-      }
-      go (suc k) e = absurd (let z : _≡_ {A = ℕ} 0 1 = cc in omega arith)
-
--- the same of a plan text
-module _ (text : List ℕ) (forced passes : ℕ) where
-  pub plan-short : planDone text Force 32 .answer ≡ Accepted forced passes
-      → Short (readOf text .table) (planDone text Force 32 .recs) forced passes
-  unfolding planDone
-  plan-short e = go (readOf text .answer) refl e
-    where
-      t : Table
-      t = readOf text .table
-
-      go : (c : Checked) → readOf text .answer ≡ c
-          → unlessFaulty c (tableDone t Force 32) .answer ≡ Accepted forced passes
-          → Short t (unlessFaulty c (tableDone t Force 32) .recs) forced passes
-      go Fine e a =
-          let legal : LegalTable t = read-fine-legal text (readOf text) refl e in
-          let same : forceDone t ≡ tableDone t Force 32 = table-force t Force 32 (legal .count) refl in
-          rw same at (force-short t legal forced passes (ap (λ (d : Done). d .answer) same ∙ a))
-      go (Faulty number place) e a = absurd (let z : _≡_ {A = ℕ} 0 1 = cc in omega arith)
+      go : (k : ℕ) → k ≤ 32 → length (answerText t (ending k .recs) (ending k .answer)) ≤ listingRoom
+      go zero small = accepted-fits t finalRecords (countForced t) (final t .passes) accepted-short
+      go (suc k) small =
+          refusal-fits 14 (suc k) (final t .passes) (omega arith) (omega arith) (omega (arith, passes-small))

@@ -10,22 +10,15 @@ use lib.Dec.{eqb}
 use borrow.Author.Tests.{eqb-true, eqb-false}
 use Rattle.table.specs.Table.{taskAt, LegalTable}
 use Rattle.table.specs.declared.Table.{Table}
-use Rattle.answer.specs.declared.Record.{Record}
-use Rattle.answer.specs.Records.{recordAt}
+use Rattle.planner.specs.declared.Record.{Record}
+use Rattle.planner.specs.Answers.{recordAt}
 use Rattle.page.specs.Decimal.{decimal}
 use Rattle.page.specs.Words.{word, either}
 use Rattle.page.proofs.DecimalLaws.{tens, decimal-short}
 use Rattle.listing_lines.specs.Lines.{lineOne, taskStart, lastLine, refusalLine}
-use Rattle.listing.specs.Listing.{
-  loadAt,
-  totalLoad,
-  rowAt,
-  lineAt,
-  linesTo,
-  acceptedText,
-  listingRoom,
-}
-use Rattle.listing.proofs.LoadLaws.{loadAt-small, loads-small}
+use Rattle.table.specs.Load.{loadAt, totalLoad}
+use Rattle.table.proofs.LoadLaws.{loadAt-small, loads-small}
+use Rattle.listing.specs.Listing.{rowAt, lineAt, linesTo, acceptedText, listingRoom}
 use Rattle.listing_lines.proofs.LineLaws.{
   line-one-length,
   start-length,

@@ -1,9 +1,7 @@
-pub mod LoadLaws
 pub mod TaskLaws
 pub mod FitLaws
 pub mod AnswerLaws
 pub mod AllFit
 pub mod ListedLaws
-pub mod FirstLaws
 pub mod Samples
 pub mod Theorems

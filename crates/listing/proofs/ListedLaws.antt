@@ -2,25 +2,27 @@
 -- Assumes nothing.
 use Prim.Native.Nat.{ℕ, _+_, _≤_, _<_}
 use native.Mathlib.Omega.{arith}
-use mathlib.Core.Path.{_≡_, refl, sym, ap, _∙_}
-use mathlib.Core.List.{List, []}
+use mathlib.Core.Path.{_≡_, sym, ap, subst, _∙_}
+use mathlib.Core.List.{List}
 use lib.ListN.{length, length-append}
 use borrow.Author.Tests.{lt-ltb, le-ltb}
 use Rattle.table.specs.Table.{LegalTable}
 use Rattle.table.specs.declared.Table.{Table}
-use Rattle.lines.specs.declared.Reading.{Reading}
+use Rattle.table.specs.declared.Refusal.{Refusal}
+use Rattle.table.specs.declared.Checked.the-variants.{Fine, Refused as Faulty}
 use Rattle.lines.specs.Reads.{readOf}
-use Rattle.answer.specs.declared.Record.{Record}
-use Rattle.answer.specs.declared.Done.{Done}
-use Rattle.answer.specs.declared.Job.the-variants.{Force}
-use Rattle.answer.specs.declared.Answer.{Answer}
-use Rattle.answer.specs.declared.Answer.the-variants.{Yes, No, Accepted, Refused}
-use Rattle.answer.specs.Done.{planDone}
-use Rattle.page.specs.Page.{Put}
-use Rattle.page.proofs.PageLaws.{put-then, put-start, put-length}
+use Rattle.lines.specs.declared.Reading.{Reading}
+use Rattle.lines.proofs.Theorems.{read-legal, refused-small}
+use Rattle.planner.specs.declared.Record.{Record}
+use Rattle.planner.specs.declared.Done.{Done}
+use Rattle.planner.specs.declared.Job.the-variants.{Force}
+use Rattle.planner.specs.Done.{legalDone, planDone}
+use Rattle.planner.proofs.StageLaws.{room-enough}
+use Rattle.buffer.specs.Put.{Put}
+use Rattle.buffer.proofs.PutLaws.{put-then, put-start, put-length}
 use Rattle.listing_lines.specs.Lines.{lineOne, lastLine, refusalLine}
+use Rattle.table.specs.Load.{totalLoad}
 use Rattle.listing.specs.Listing.{
-  totalLoad,
   lineAt,
   linesTo,
   acceptedText,
@@ -29,8 +31,8 @@ use Rattle.listing.specs.Listing.{
   listingRoom,
   Listed,
 }
-use Rattle.listing.proofs.FitLaws.{Short, accepted-fits}
-use Rattle.listing.proofs.AnswerLaws.{plan-short}
+use Rattle.listing.proofs.FitLaws.{refusal-fits}
+use Rattle.listing.proofs.AnswerLaws.{legal-fits}
 
 -- an accepted listing: line one, the tasks' lines, the last line
 module _ (t : Table) (rs : List Record) (forced passes : ℕ) where
@@ -51,36 +53,60 @@ module _ (t : Table) (rs : List Record) (forced passes : ℕ) where
   accepted-put p q e l = put-then p (put-then q (rw e at l))
 
 -- the text of each answer
-module _ (text : List ℕ) {r : Reading} {d : Done} (read : r ≡ readOf text)
-    (done : d ≡ planDone text Force 32) where
-  listing-is : (a : Answer) → d .answer ≡ a → answerText (r .table) (d .recs) a ≡ listingOf text
-  unfolding listingOf
-  listing-is a e = rw (← e, ← read, ← done) refl
+module _ (text : List ℕ) where
+  pub listing-refused : {why : Refusal} → readOf text .answer ≡ Faulty why
+      → refusalLine (why .number) (why .place) 0 ≡ listingOf text
+  unfolding listingOf planDone
+  listing-refused e = rw e
 
-  pub listing-accepted : {forced passes : ℕ} → d .answer ≡ Accepted forced passes
-      → acceptedText (r .table) (d .recs) forced passes ≡ listingOf text
-  listing-accepted {forced} {passes} e = listing-is (Accepted forced passes) e
+  pub listing-legal : readOf text .answer ≡ Fine
+      → answerText (readOf text .table) (legalDone (readOf text .table) Force .recs)
+      (legalDone (readOf text .table) Force .answer)
+      ≡ listingOf text
+  unfolding listingOf planDone
+  listing-legal e = rw (e, ← room-enough (readOf text .table) Force 32 (read-legal text e .count))
 
-  pub listing-refused : {number place passes : ℕ} → d .answer ≡ Refused number place passes
-      → refusalLine number place passes ≡ listingOf text
-  listing-refused {number} {place} {passes} e = listing-is (Refused number place passes) e
+  -- in the code's words: r is what was read, d what the table is answered
+  module _ {r : Reading} (re : r ≡ readOf text) where
+    pub read-table : r .answer ≡ Fine → LegalTable (r .table)
+    read-table fine =
+        subst (λ (x : Reading). LegalTable (x .table)) (sym re)
+        (read-legal text (ap (λ (x : Reading). x .answer) (sym re) ∙ fine))
 
-  pub listing-yes : d .answer ≡ Yes → [] ≡ listingOf text
-  listing-yes e = listing-is Yes e
+    pub listing-done : {d : Done} → r .answer ≡ Fine → d ≡ legalDone (r .table) Force
+        → answerText (r .table) (d .recs) (d .answer) ≡ listingOf text
+    listing-done {d} fine de =
+        ap (λ (x : Done). answerText (r .table) (x .recs) (x .answer)) de
+        ∙ ap (λ (x : Reading). answerText (x .table) (legalDone (x .table) Force .recs)
+        (legalDone (x .table) Force .answer)) re
+        ∙ listing-legal (ap (λ (x : Reading). x .answer) (sym re) ∙ fine)
 
-  pub listing-no : d .answer ≡ No → [] ≡ listingOf text
-  listing-no e = listing-is No e
+    pub listing-faulty : {why : Refusal} → r .answer ≡ Faulty why
+        → refusalLine (why .number) (why .place) 0 ≡ listingOf text
+    listing-faulty fault = listing-refused (ap (λ (x : Reading). x .answer) (sym re) ∙ fault)
 
-  -- an accepted plan's table is legal, and its listing fits
-  pub accepted-ready : {forced passes : ℕ} → d .answer ≡ Accepted forced passes
-      → LegalTable (r .table) × (length (acceptedText (r .table) (d .recs) forced passes) ≤ listingRoom)
-  accepted-ready {forced} {passes} e = (short .legal, accepted-fits (r .table) (d .recs) forced passes short)
-    where
-      said : planDone text Force 32 .answer ≡ Accepted forced passes
-      said = ap (λ (x : Done). x .answer) (sym done) ∙ e
+    pub refusal-ready : {why : Refusal} {n : ℕ} → r .answer ≡ Faulty why → listingRoom ≤ n
+        → 0 + length (refusalLine (why .number) (why .place) 0) ≤ n
+    refusal-ready {why} {n} fault enough =
+        let small : (why .number ≤ 12) × (why .place ≤ 34) =
+        refused-small text (ap (λ (x : Reading). x .answer) (sym re) ∙ fault) in
+        omega (
+          arith,
+          refusal-fits (why .number) (why .place) 0 (omega (arith, small .0)) (omega (arith, small .1))
+              (omega arith),
+        )
 
-      short : Short (r .table) (d .recs) forced passes
-      short = rw (read, done) (plan-short text forced passes said)
+-- a legal table's listing fits
+pub table-ready : {t : Table} {d : Done} {n : ℕ} → LegalTable t → d ≡ legalDone t Force → listingRoom ≤ n
+    → LegalTable t × (length (answerText t (d .recs) (d .answer)) ≤ n)
+table-ready {t} {d} legal de enough = (
+  legal,
+  omega (
+    arith,
+    legal-fits t legal,
+    ap (λ (x : Done). length (answerText t (x .recs) (x .answer))) de,
+  ),
+)
 
 -- the buffer then
 module _ {text old : List ℕ} where
@@ -100,13 +126,6 @@ module _ {text old : List ℕ} where
           bytes = rw (le-ltb (length old) listingRoom enough, ← e) (q .1);
           within = omega (arith, p .fits, p .next, put-length p);
         }
-
-    pub listed-empty : [] ≡ listingOf text → Listed text old 0 old
-    listed-empty e = record {
-      answer = rw (le-ltb (length old) listingRoom enough, ← e);
-      bytes = rw (le-ltb (length old) listingRoom enough, ← e);
-      within = omega arith;
-    }
 
 -- any two results that the promise allows are equal
 pub listed-only : {text old a b : List ℕ} {r r′ : ℕ} → Listed text old r a → Listed text old r′ b

@@ -2,7 +2,8 @@
 -- Assumes nothing.
 use mathlib.Core.Path.{_≡_, refl}
 use mathlib.Core.List.{[], _++_}
-use Rattle.model.specs.Sums.{sumTo, topTo, least}
+use Rattle.base.specs.Sums.{sumTo, topTo}
+use Rattle.base.specs.Least.{least, firstFrom}
 use Rattle.model.specs.Bound.{
   workIn,
   W,
@@ -18,20 +19,22 @@ use Rattle.model.specs.Bound.{
   leastLength,
   bound,
 }
-use Rattle.model.specs.Forcing.{tab, test, lowest, lacks, lacking, made, run, force}
-use Rattle.table.specs.Table.{flagsOf, row}
+use Rattle.base.specs.Rows.{listFrom, row}
+use Rattle.model.specs.Forcing.{test, lowest, lacks, lacking, made, run, force}
+use Rattle.table.specs.Table.{flagsOf}
 use Rattle.table.specs.Checks.{headFault, taskFault}
-use Rattle.frames.specs.Digits.{digitOf, byteAt, wordAt, digits as lineDigits}
+use Rattle.frames.specs.Digits.{digitOf, byteAt, wordAt, allDigits}
 use Rattle.frames.specs.Frames.{frameFault}
-use Rattle.lines.specs.Fields.{headOf, taskOf, headLine, taskLine as lineOfTask}
-use Rattle.lines.specs.Reads.{tasksTo, withTasks, wrongPlace, tasksRead, readOf}
-use Rattle.forcing.specs.Answers.{forcedOf}
-use Rattle.answer.specs.Records.{rowOf, changed}
-use Rattle.answer.specs.Done.{forceDone, tableDone, planDone}
+use Rattle.lines.specs.Form.{lineStart}
+use Rattle.lines.specs.Fields.{headOf, taskOf, headLineFault, taskLineFault}
+use Rattle.lines.specs.Reads.{withTasks, wrongTask, tasksRead, frontBy, readOf}
+use Rattle.flags.specs.Flags.{changed}
+use Rattle.planner.specs.Done.{forceDone, legalDone, roomDone, planDone}
 use Rattle.page.specs.Decimal.{digits, decimal}
 use Rattle.page.specs.Words.{word}
-use Rattle.listing_lines.specs.Lines.{load, lineOne, taskStart, taskLine, lastLine, refusalLine}
-use Rattle.listing.specs.Listing.{totalLoad, linesTo, acceptedText, listingOf}
+use Rattle.table.specs.Load.{load, totalLoad}
+use Rattle.listing_lines.specs.Lines.{lineOne, taskStart, taskLineText, lastLine, refusalLine}
+use Rattle.listing.specs.Listing.{linesTo, acceptedText, listingOf}
 
 pub example : listingOf
     (word "01010102FB\n"
@@ -39,13 +42,13 @@ pub example : listingOf
     ≡ word "plan FP cores 1 tasks 2\n"
     ++ (word "task 1 N forced bound 12 deadline 12 load 333\n"
     ++ (word "task 2 N forced bound 17 deadline 18 load 375\n" ++ word "total load 708 forced 2 passes 3\n"))
-unfolding sumTo topTo least workIn W E share block from cap shareOf blockOf B satisfies leastLength bound
-    tab test lowest lacks lacking made run force flagsOf row headFault taskFault digitOf byteAt wordAt
-    lineDigits frameFault headOf taskOf headLine lineOfTask tasksTo withTasks wrongPlace tasksRead readOf
-    forcedOf rowOf changed forceDone tableDone planDone digits decimal load lineOne taskStart taskLine
-    lastLine totalLoad linesTo acceptedText listingOf
+unfolding sumTo topTo least firstFrom workIn W E share block from cap shareOf blockOf B satisfies leastLength
+    bound listFrom test lowest lacks lacking made run force flagsOf row headFault taskFault digitOf byteAt
+    wordAt allDigits frameFault headOf taskOf lineStart headLineFault taskLineFault withTasks wrongTask
+    tasksRead frontBy readOf changed forceDone legalDone roomDone planDone digits decimal load lineOne
+    taskStart taskLineText lastLine totalLoad linesTo acceptedText listingOf
 example = refl
 
 pub empty : listingOf [] ≡ word "refused 1 place 1\n"
-unfolding listingOf planDone readOf headLine frameFault refusalLine decimal digits
+unfolding listingOf planDone readOf frontBy headLineFault frameFault refusalLine decimal digits
 empty = refl

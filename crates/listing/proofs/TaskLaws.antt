@@ -10,13 +10,14 @@ use mathlib.Core.List.{List}
 use lib.ListN.{length, length-append}
 use Rattle.table.specs.Table.{taskAt, LegalTable}
 use Rattle.table.specs.declared.Table.{Table}
-use Rattle.answer.specs.declared.Record.{Record}
-use Rattle.answer.specs.Records.{recordAt}
-use Rattle.page.specs.Page.{Put}
-use Rattle.page.proofs.PageLaws.{put-none, put-then, put-length}
+use Rattle.table.specs.Load.{loadAt}
+use Rattle.planner.specs.declared.Record.{Record}
+use Rattle.planner.specs.Answers.{recordAt}
+use Rattle.buffer.specs.Put.{Put}
+use Rattle.buffer.proofs.PutLaws.{put-none, put-then, put-length}
 use Rattle.listing_lines.specs.declared.TaskRow.{TaskRow}
-use Rattle.listing_lines.specs.Lines.{taskLine}
-use Rattle.listing.specs.Listing.{loadAt, lineAt, linesTo}
+use Rattle.listing_lines.specs.Lines.{taskLineText}
+use Rattle.listing.specs.Listing.{lineAt, linesTo}
 
 -- more places are at least as long
 lines-grow : (f : ℕ → List ℕ) (i n : ℕ) → i < n → length (linesTo f i) + length (f i) ≤ length (linesTo f n)
@@ -62,10 +63,10 @@ dueRow t rs number i l = record {
 
 module _ {s : List ℕ} {at : ℕ} {t : Table} {rs : List Record} {s′ : List ℕ} {place number i l : ℕ}
     (w : Writing s at t rs s′ place number i) (lt : i < t .n) (e : l ≡ loadAt t i) where
-  due : taskLine (dueRow t rs number i l) ≡ lineAt t rs i
+  due : taskLineText (dueRow t rs number i l) ≡ lineAt t rs i
   due = cc (w .count)
 
-  pub writing-room : place + length (taskLine (dueRow t rs number i l)) ≤ length s′
+  pub writing-room : place + length (taskLineText (dueRow t rs number i l)) ≤ length s′
   writing-room =
       omega (
         arith,
@@ -76,7 +77,8 @@ module _ {s : List ℕ} {at : ℕ} {t : Table} {rs : List Record} {s′ : List �
         put-length (w .done),
       )
 
-  pub writing-step : {s″ : List ℕ} {place′ : ℕ} → Put s′ place (taskLine (dueRow t rs number i l)) place′ s″
+  pub writing-step : {s″ : List ℕ} {place′ : ℕ}
+      → Put s′ place (taskLineText (dueRow t rs number i l)) place′ s″
       → Writing s at t rs s″ place′ (number + 1) (i + 1)
   unfolding linesTo
   writing-step p = record {

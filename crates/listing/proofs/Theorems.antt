@@ -14,7 +14,8 @@ use Rattle.page.specs.Words.{word}
 use Rattle.listing.specs.Listing.{listingOf, Listed}
 use Rattle.listing.proofs.ListedLaws.{listed-only}
 use Rattle.listing.proofs.AllFit.{listing-fits}
-use Rattle.listing.proofs.FirstLaws.{listing-first}
+use Rattle.lines.proofs.Theorems.{reading-settled}
+use Rattle.planner.specs.Done.{planDone}
 use Rattle.listing.proofs.Samples as samples
 
 pub listing-only : {text old a b : List ℕ} {r r′ : ℕ} → Listed text old r a → Listed text old r′ b
@@ -25,7 +26,8 @@ pub listing-room : (text : List ℕ) → length (listingOf text) ≤ 2048
 listing-room = listing-fits
 
 pub listing-settled : (text : List ℕ) → listingOf (take 1004 text) ≡ listingOf text
-listing-settled = listing-first
+unfolding listingOf planDone
+listing-settled text = rw (reading-settled text)
 
 pub example : listingOf
     (word "01010102FB\n"

@@ -1,7 +1,6 @@
 -- Document 01, "The listing": every byte of the listing of a plan text after forcing.
 --
 --   document 01                                    here
---   the load of the task at a place, the total     loadAt, totalLoad
 --   line one, the tasks' lines, the last line      acceptedText
 --   a refused plan's one line                      answerText, of a refusal
 --   what the plan printer writes                   listingOf text
@@ -13,25 +12,20 @@ use mathlib.Core.Path.{_≡_}
 use mathlib.Core.List.{List, [], _++_}
 use lib.ListN.{length, drop}
 use lib.Dec.{ltb}
-use Rattle.model.specs.Sums.{pick, sumTo}
-use Rattle.table.specs.Table.{taskAt}
+use Rattle.base.specs.Choice.{pick}
+use Rattle.table.specs.Table.{taskAt, LegalTable}
 use Rattle.table.specs.declared.Table.{Table}
 use Rattle.lines.specs.Reads.{readOf}
-use Rattle.answer.specs.declared.Record.{Record}
-use Rattle.answer.specs.declared.Job.the-variants.{Force}
-use Rattle.answer.specs.declared.Answer.{Answer}
-use Rattle.answer.specs.declared.Answer.the-variants.{Yes, No, Accepted, Refused}
-use Rattle.answer.specs.Records.{recordAt}
-use Rattle.answer.specs.Done.{planDone}
+use Rattle.planner.specs.declared.Record.{Record}
+use Rattle.planner.specs.declared.Done.{Done}
+use Rattle.planner.specs.declared.Job.the-variants.{Force}
+use Rattle.planner.specs.declared.Answer.{Answer}
+use Rattle.planner.specs.declared.Answer.the-variants.{Given, Refused}
+use Rattle.planner.specs.Answers.{recordAt}
+use Rattle.planner.specs.Done.{planDone}
 use Rattle.listing_lines.specs.declared.TaskRow.{TaskRow}
-use Rattle.listing_lines.specs.Lines.{load, lineOne, taskLine, lastLine, refusalLine}
-
--- of the task at a place, counted from 0
-abbrev pub loadAt : Table → ℕ → ℕ
-loadAt t i = load (taskAt (t .tasks) i .cost) (taskAt (t .tasks) i .period)
-
-unfoldable pub totalLoad : Table → ℕ
-totalLoad t = sumTo (loadAt t) (t .n)
+use Rattle.table.specs.Load.{loadAt, totalLoad}
+use Rattle.listing_lines.specs.Lines.{lineOne, taskLineText, lastLine, refusalLine}
 
 -- what the line of the task at a place shows; its number counts from 1
 abbrev pub rowAt : Table → List Record → ℕ → TaskRow
@@ -45,7 +39,7 @@ rowAt t rs i = record {
 }
 
 abbrev pub lineAt : Table → List Record → ℕ → List ℕ
-lineAt t rs i = taskLine (rowAt t rs i)
+lineAt t rs i = taskLineText (rowAt t rs i)
 
 -- the lines of the first n places
 unfoldable pub linesTo : (ℕ → List ℕ) → ℕ → List ℕ
@@ -58,12 +52,10 @@ acceptedText t rs forced passes =
     lineOne (t .policy) (t .cores) (t .n)
     ++ (linesTo (lineAt t rs) (t .n) ++ lastLine (totalLoad t) forced passes)
 
--- by the answer of forcing, which is never a plain yes or no
+-- by the answer of forcing
 abbrev pub answerText : Table → List Record → Answer → List ℕ
-answerText t rs Yes = []
-answerText t rs No = []
-answerText t rs (Accepted forced passes) = acceptedText t rs forced passes
-answerText t rs (Refused number place passes) = refusalLine number place passes
+answerText t rs (Given v) = acceptedText t rs (v .forced) (v .passes)
+answerText t rs (Refused why passes) = refusalLine (why .number) (why .place) passes
 
 -- the listing of a plan text; 32 records are room for every table
 unfoldable pub listingOf : List ℕ → List ℕ
@@ -73,6 +65,10 @@ listingOf text =
 -- every listing fits in so many bytes
 abbrev pub listingRoom : ℕ
 listingRoom = 2048
+
+-- a legal table and what forcing says of it, with room for its listing in the buffer
+abbrev pub Ready : Table → Done → List ℕ → Type 0
+Ready t d out = LegalTable t × (length (answerText t (d .recs) (d .answer)) ≤ length out)
 
 -- the answer, and the buffer then, by the test whether there is too little room
 abbrev pub countOf : List ℕ → List ℕ → ℕ

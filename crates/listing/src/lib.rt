@@ -1,35 +1,19 @@
 // The listing of a plan after forcing, into a buffer that the caller lends. Document 01, "The listing".
-ghost use mathlib.Core.Path.{_≡_};
 ghost use Prim.Native.Nat.{_+_, _<_, _≤_};
 ghost use lib.ListN.{length};
 ghost use Rattle.table.specs.Table.{LegalTable};
-ghost use Rattle.page.specs.Page.{Put};
-ghost use Rattle.listing.specs.Listing.{totalLoad, linesTo, lineAt, acceptedText, Listed};
-use answer::Answer;
-use answer::Job;
-use answer::Record;
+ghost use Rattle.buffer.specs.Put.{Put};
+ghost use Rattle.listing.specs.Listing.{linesTo, lineAt, acceptedText, answerText, Ready, Listed};
 use listing_lines::TaskRow;
-use listing_lines::task_load;
+use planner::Answer;
+use planner::Done;
+use planner::Job;
+use planner::Record;
+use table::Checked;
 use table::Table;
 
 // Every listing fits in so many bytes.
 pub const LISTING_ROOM: usize = 2048;
-
-// The sum of the tasks' loads.
-fn total_load(t: Table) -> u32
-    requires { ⌜ LegalTable t ⌝ }
-    ensures { λ r. ⌜ r ≡ totalLoad t ⌝ }
-{
-    let n = t.n;
-    let mut total: u32 = 0;
-    let mut i: usize = 0;
-    while i < n {
-        let task = t.tasks[i];
-        total += task_load(task.cost, task.period);
-        i += 1;
-    }
-    total
-}
 
 // The tasks' lines, in table order.
 fn put_tasks(out: &mut [u8], at: usize, t: Table, recs: [Record; 32]) -> usize
@@ -50,7 +34,7 @@ fn put_tasks(out: &mut [u8], at: usize, t: Table, recs: [Record; 32]) -> usize
             forced: rec.forced,
             bound: rec.bound,
             deadline: task.deadline,
-            load: task_load(task.cost, task.period),
+            load: table::task_load(task.cost, task.period),
         };
         place = listing_lines::put_task(out, place, row);
         i += 1;
@@ -66,8 +50,24 @@ fn put_accepted(out: &mut [u8], t: Table, recs: [Record; 32], forced: u32, passe
     let n = t.n;
     let a = listing_lines::put_line_one(out, 0, t.policy, t.cores, n as u32);
     let b = put_tasks(out, a, t, recs);
-    let total = total_load(t);
+    let total = table::total_load(t);
     listing_lines::put_last(out, b, total, forced, passes)
+}
+
+// What forcing says of a legal table.
+fn put_done(out: &mut [u8], t: Table, done: Done) -> usize
+    requires { ⌜ Ready t done (now out) ⌝ }
+    ensures { λ r. ⌜ Put (now (out .entry)) 0 (answerText t (done .recs) (done .answer)) r
+        (now (out .exit)) ⌝ }
+{
+    let recs = done.recs;
+    let said = done.answer;
+    match said {
+        Answer::Given(v) => put_accepted(out, t, recs, v.forced, v.passes),
+        Answer::Refused { why, passes } => {
+            listing_lines::put_refusal(out, 0, why.number, why.place, passes)
+        }
+    }
 }
 
 // The listing of a plan text after forcing. The answer is the number of bytes written, 0 for want of room.
@@ -78,18 +78,10 @@ pub fn write_listing(text: &[u8], out: &mut [u8]) -> usize
         return 0;
     }
     let reading = lines::read_plan(text);
-    let done = answer::plan_core(text, Job::Force, 32);
+    let found = reading.answer;
     let table = reading.table;
-    let recs = done.recs;
-    let said = done.answer;
-    match said {
-        Answer::Yes => 0,
-        Answer::No => 0,
-        Answer::Accepted { forced, passes } => put_accepted(out, table, recs, forced, passes),
-        Answer::Refused {
-            number,
-            place,
-            passes,
-        } => listing_lines::put_refusal(out, 0, number, place, passes),
+    match found {
+        Checked::Fine => put_done(out, table, planner::legal_done(table, Job::Force)),
+        Checked::Refused(why) => listing_lines::put_refusal(out, 0, why.number, why.place, 0),
     }
 }

@@ -12,7 +12,7 @@ use Rattle.page.specs.Decimal.{decimal}
 use Rattle.page.specs.Words.{word, either}
 use Rattle.page.proofs.WordLaws.{either-after}
 use Rattle.listing_lines.specs.declared.TaskRow.{TaskRow}
-use Rattle.listing_lines.specs.Lines.{lineOne, taskStart, taskLine, lastLine, refusalLine}
+use Rattle.listing_lines.specs.Lines.{lineOne, taskStart, taskLineText, lastLine, refusalLine}
 
 -- a word with a number after it
 abbrev pub field : List ℕ → ℕ → List ℕ
@@ -54,14 +54,14 @@ module _ (number flag forced : ℕ) where
   start-length = ap length start-parts ∙ simp length-append (omega arith)
 
 module _ (r : TaskRow) where
-  pub task-parts : taskLine r
+  pub task-parts : taskLineText r
       ≡ taskStart (r .number) (r .flag) (r .forced)
       ++ (field (word " bound ") (r .bound)
       ++ (field (word " deadline ") (r .deadline) ++ (field (word " load ") (r .load) ++ word "\n")))
-  unfolding taskLine
+  unfolding taskLineText
   task-parts = simp (append-assoc, append-nil)
 
-  pub task-length : length (taskLine r)
+  pub task-length : length (taskLineText r)
       ≡ length (taskStart (r .number) (r .flag) (r .forced))
       + length (decimal (r .bound))
       + length (decimal (r .deadline))

@@ -1,26 +1,21 @@
--- Document 01, "The listing": the bytes of each line, and the load of a task.
+-- Document 01, "The listing": the bytes of each line.
 --
 --   document 01                                                  here
---   the load of a task                                           load C T
 --   line one: policy, cores, tasks                               lineOne
---   a task's line: number, flag, forced or given,                taskLine, of a row of these
+--   a task's line: number, flag, forced or given,                taskLineText, of a row of these
 --     bound, deadline, load
 --   last line: total load, forced count, passes                  lastLine
 --   a refused plan's one line; for 14 the passes follow          refusalLine
 --
 -- A word is `word ".."`, a number is `decimal n`, and `line` parts words by one space and ends with 0A.
 -- Assumes nothing.
-use Prim.Native.Nat.{ℕ, _*_, _/_}
+use Prim.Native.Nat.{ℕ}
 use mathlib.Core.List.{List, [], _∷_}
 use lib.Dec.{eqb}
-use Rattle.model.specs.Sums.{pick}
+use Rattle.base.specs.Choice.{pick}
 use Rattle.page.specs.Decimal.{decimal}
 use Rattle.page.specs.Words.{word, either, spaced, line}
 use Rattle.listing_lines.specs.declared.TaskRow.{TaskRow}
-
--- floor(1000 × C / T)
-unfoldable pub load : ℕ → ℕ → ℕ
-load C T = 1000 * C / T
 
 unfoldable pub lineOne : ℕ → ℕ → ℕ → List ℕ
 lineOne policy cores n =
@@ -40,8 +35,8 @@ taskStart number flag forced =
     ∷ either forced (word "given") (word "forced")
     ∷ [])
 
-unfoldable pub taskLine : TaskRow → List ℕ
-taskLine r =
+unfoldable pub taskLineText : TaskRow → List ℕ
+taskLineText r =
     line
     (taskStart (r .number) (r .flag) (r .forced)
     ∷ word "bound" ∷ decimal (r .bound)

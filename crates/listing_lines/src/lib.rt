@@ -1,9 +1,8 @@
 // The lines of the listing, one function for each kind. Document 01, "The listing".
-ghost use mathlib.Core.Path.{_≡_};
-ghost use Prim.Native.Nat.{_+_, _<_, _≤_};
+ghost use Prim.Native.Nat.{_+_, _≤_};
 ghost use lib.ListN.{length};
-ghost use Rattle.page.specs.Page.{Put};
-ghost use Rattle.listing_lines.specs.Lines.{load, lineOne, taskStart, taskLine, lastLine, refusalLine};
+ghost use Rattle.buffer.specs.Put.{Put};
+ghost use Rattle.listing_lines.specs.Lines.{lineOne, taskStart, taskLineText, lastLine, refusalLine};
 
 // What a task's line shows.
 pub struct TaskRow {
@@ -13,14 +12,6 @@ pub struct TaskRow {
     pub bound: u32,
     pub deadline: u32,
     pub load: u32,
-}
-
-// The load of a task.
-pub fn task_load(cost: u32, period: u32) -> u32
-    requires { ⌜ (cost ≤ 1000000) × (0 < period) ⌝ }
-    ensures { λ r. ⌜ r ≡ load cost period ⌝ }
-{
-    1000 * cost / period
 }
 
 // Line one: policy, cores, tasks.
@@ -46,8 +37,8 @@ fn put_task_start(out: &mut [u8], at: usize, number: u32, flag: u32, forced: u32
 
 // A task's line: after its start the bound, deadline and load.
 pub fn put_task(out: &mut [u8], at: usize, row: TaskRow) -> usize
-    requires { ⌜ at + length (taskLine row) ≤ length (now out) ⌝ }
-    ensures { λ r. ⌜ Put (now (out .entry)) at (taskLine row) r (now (out .exit)) ⌝ }
+    requires { ⌜ at + length (taskLineText row) ≤ length (now out) ⌝ }
+    ensures { λ r. ⌜ Put (now (out .entry)) at (taskLineText row) r (now (out .exit)) ⌝ }
 {
     let a = put_task_start(out, at, row.number, row.flag, row.forced);
     let b = page::put_field(out, a, b" bound ", row.bound);

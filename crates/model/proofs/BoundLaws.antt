@@ -1,8 +1,7 @@
 -- Laws of bounds: from a length that fails the search may skip to c + B(l), so that the iteration of Theorem
--- 1 reaches the least length; a bound is never worse where B is nowhere larger, which gives Lemma 6; what a
--- search for the least length knows on its way. All rest on one fact, that B never falls as l grows, or as
--- another task is made non-preemptive (`B-mono`).
--- Assumes nothing.
+-- 1 reaches the least length; a bound is never worse where B is nowhere larger, which gives Lemma 6. All rest
+-- on one fact, that B never falls as l grows, or as another task is made non-preemptive (`B-mono`). Assumes
+-- nothing.
 use Prim.Native.Nat.{ℕ, zero, suc, _+_, _-_, _≤_, _<_}
 use native.Mathlib.Omega.{arith}
 use mathlib.Core.Path.{_≡_, refl, sym}
@@ -10,10 +9,10 @@ use mathlib.Core.Bool.{Bool, true, false}
 use mathlib.Core.Logic.{⊎-elim}
 use native.Mathlib.Nat.{le-refl, le-of-eq}
 use borrow.Author.Tests.{leb-true, le-leb}
-use Rattle.model.specs.Sums.{least, iterate}
-use Rattle.model.specs.Demands.{NoWorse}
-use Rattle.model.proofs.LeastLaws.{least-is, least-none, le-or-lt, least-says, no-worse-both}
-use Rattle.model.proofs.LeastLaws.{least-order, jump, iterate-least}
+use Rattle.base.specs.Least.{least, iterate}
+use Rattle.base.specs.Least.{NoWorse}
+use Rattle.base.proofs.LeastLaws.{least-says, no-worse-both}
+use Rattle.base.proofs.LeastLaws.{least-order, jump, iterate-least}
 use Rattle.model.specs.Bound.{System, under, byFlag, from, B, satisfies, leastLength, plus, bound}
 use Rattle.model.proofs.TermLaws.{B-mono}
 
@@ -129,43 +128,6 @@ bound-range s fl k pos legal = go (fl k)
     go (suc f) =
         plus-range 0 (least (satisfies s fl k) (s .D k - s .C k + 1) (s .C k)) (s .C k) (s .D k)
         (λ h. omega (arith, least-range (satisfies s fl k) (s .D k - s .C k + 1) (s .C k) h))
-
--- What the search knows at a length: it is in the range, and no length before it satisfies the line.
-pub record Climbing (s : System) (fl : ℕ → ℕ) (k l : ℕ) : Type 0 where
-  pub low : from s fl k ≤ l
-  pub high : l < from s fl k + (s .D k - s .C k + 1)
-  pub before : (j : ℕ) → from s fl k ≤ j → j < l → satisfies s fl k j ≡ false
-
-module _ (s : System) (fl : ℕ → ℕ) (k : ℕ) where
-  pub climb-start : Climbing s fl k (from s fl k)
-  climb-start = record {
-    low = le-refl _;
-    high = omega arith;
-    before = λ j a b. absurd (let z : ⊥ = omega arith in z);
-  }
-
-  passed : (l : ℕ) → Climbing s fl k l → (j : ℕ) → from s fl k ≤ j → j < next s fl k l
-      → satisfies s fl k j ≡ false
-  passed l a j lo hi = ⊎-elim (λ h. skip s fl k l j h hi) (λ h. a .before j lo h) (le-or-lt l j)
-
-  pub climb-on : (l : ℕ) → Climbing s fl k l → l < next s fl k l
-      → next s fl k l < from s fl k + (s .D k - s .C k + 1) → Climbing s fl k (next s fl k l)
-  climb-on l a up room = record { low = omega (arith, a .low); high = room; before = passed l a }
-
-  pub climb-found : (l : ℕ) → Climbing s fl k l → next s fl k l ≤ l → l ≡ leastLength s fl k
-  unfolding leastLength
-  climb-found l a ok =
-      sym
-      (least-is (satisfies s fl k) (s .D k - s .C k + 1) (from s fl k) l (a .low) (a .high)
-      (unfold satisfies in le-leb (next s fl k l) l ok) (a .before))
-
-  pub climb-none : (l : ℕ) → Climbing s fl k l → from s fl k + (s .D k - s .C k + 1) ≤ next s fl k l
-      → 0 ≡ leastLength s fl k
-  unfolding leastLength
-  climb-none l a out =
-      sym
-      (least-none (satisfies s fl k) (s .D k - s .C k + 1) (from s fl k)
-      (λ j lo hi. passed l a j lo (omega arith)))
 
 -- the first length is at most C, the least one at most D
 pub from-small : (s : System) (fl : ℕ → ℕ) (k : ℕ) → 0 < s .C k → from s fl k ≤ s .C k

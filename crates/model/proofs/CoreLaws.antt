@@ -9,13 +9,15 @@ use native.Mathlib.Nat.{eq-zero-or-pos}
 use mathlib.Core.Path.{_≡_, refl}
 use mathlib.Core.Logic.{⊎-elim}
 use mathlib.Core.List.{List}
-use Rattle.model.specs.Sums.{sumTo, topTo}
+use Rattle.base.specs.Sums.{sumTo, topTo}
 use Rattle.model.specs.Bound.{System, W, E, cap, shareOf, blockOf, B, bound}
-use Rattle.model.specs.Forcing.{at, lowest, force}
-use Rattle.model.specs.Demands.{NoWorse, Timed, Flags, Passes}
-use Rattle.model.proofs.SumLaws.{top-average}
+use Rattle.base.specs.Rows.{at}
+use Rattle.model.specs.Forcing.{lowest, force}
+use Rattle.base.specs.Least.{NoWorse}
+use Rattle.model.specs.Demands.{Timed, Flags, Passes}
+use Rattle.base.proofs.SumLaws.{top-average}
 use Rattle.model.proofs.BoundLaws.{bound-from-B}
-use Rattle.model.proofs.DemandLaws.{accepted, refused, forced-falls}
+use Rattle.model.proofs.DemandLaws.{accepted-passes, refused-final, forced-falls}
 
 -- the same table on m cores
 abbrev pub on : System → ℕ → System
@@ -63,7 +65,7 @@ module _ (s : System) (m : ℕ) (some : 0 < m) (timed : Timed s) where
       ⊎-elim (λ z. z)
       (λ p.
       absurd
-      (refused (on s (suc m)) timed fs legal p (at (force (on s m) fs .flags))
+      (refused-final (on s (suc m)) timed fs legal p (at (force (on s m) fs .flags))
       (forced-falls (on s m) timed fs legal)
-      (passes-more (at (force (on s m) fs .flags)) (accepted (on s m) timed fs legal ok))))
+      (passes-more (at (force (on s m) fs .flags)) (accepted-passes (on s m) timed fs legal ok))))
       (eq-zero-or-pos (lowest (on s (suc m)) (force (on s (suc m)) fs .bounds)))

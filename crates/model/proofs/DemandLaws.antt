@@ -1,22 +1,19 @@
 -- What forcing promises, of a legal table: at most p + 1 passes; what it accepts passes, and is the least
 -- that does; what it refuses passes under no assignment. Each restates a law of `run` for `force`.
 -- Assumes nothing.
-use Prim.Native.Nat.{ℕ, suc, _+_, _-_, _≤_, _<_}
+use Prim.Native.Nat.{ℕ, zero, suc, _+_, _≤_, _<_}
 use native.Mathlib.Omega.{arith}
-use native.Mathlib.Nat.{eq-zero-or-pos}
-use mathlib.Core.Path.{_≡_, sym, ap, _∙_}
-use mathlib.Core.Logic.{⊎-elim}
+use mathlib.Core.Path.{_≡_, refl, sym, ap, _∙_}
 use mathlib.Core.List.{List}
-use lib.Dec.{eqb}
-use borrow.Author.Tests.{eqb-true, eqb-false}
 use Rattle.model.specs.Demands.{Timed, Passes, Settled, Holds, Flags}
-use Rattle.model.specs.Sums.{sumTo}
+use Rattle.base.specs.Sums.{sumTo}
 use Rattle.model.specs.Bound.{System, bound}
-use Rattle.model.specs.Forcing.{at, test, lowest, run, force}
-use Rattle.model.proofs.SumLaws.{sum-cap}
-use Rattle.model.proofs.LeastLaws.{Answer, least-says}
+use Rattle.base.specs.Rows.{at}
+use Rattle.model.specs.Forcing.{test, lowest, run, force}
+use Rattle.base.proofs.SumLaws.{sum-cap}
+use Rattle.model.proofs.LowestLaws.{Lowest, lowest-none, lowest-some, none-lowest}
 use Rattle.model.proofs.ForcingLaws.{test-at, run-bounds, run-settled, run-passes, run-least}
-use Rattle.model.proofs.ForcingLaws.{run-falls, refused-final}
+use Rattle.model.proofs.ForcingLaws.{run-falls, run-refused}
 
 module _ (s : System) (timed : Timed s) (fs : List ℕ) (legal : Flags s (at fs)) where
   few : sumTo (at fs) (s .count) ≤ s .count
@@ -52,43 +49,23 @@ module _ (s : System) (timed : Timed s) (fs : List ℕ) (legal : Flags s (at fs)
   unfolding force
   forced-least c h pass = run-least s timed (s .count) fs 0 c legal (λ k l _. pass k l) h
 
-  says : Answer (λ j. eqb (at (force s fs .bounds) (j - 1)) 0) (s .count) 1 (lowest s (force s fs .bounds))
-  unfolding lowest
-  says = least-says (λ j. eqb (at (force s fs .bounds) (j - 1)) 0) (s .count) 1
-
   -- The place of the lowest-numbered task without a bound is 0 exactly where the forced table passes.
-  pub accepted : lowest s (force s fs .bounds) ≡ 0 → Passes s (at (force s fs .flags))
-  accepted z k l =
-      ⊎-elim (λ f. absurd (let y : ⊥ = omega (arith, f .low) in y))
-      (λ n.
-      ⊎-elim
-      (λ e.
-      let q : suc k - 1 ≡ k = omega arith in
-      absurd
-      (eqb-false _ _ (n .1 (suc k) (omega arith) (omega arith))
-      (ap (at (force s fs .bounds)) q ∙ bounds-at k l ∙ e)))
-      (λ p. p) (eq-zero-or-pos (bound s (at (force s fs .flags)) k)))
-      says
+  pub accepted-passes : lowest s (force s fs .bounds) ≡ 0 → Passes s (at (force s fs .flags))
+  accepted-passes z k l = omega (arith, lowest-none s (force s fs .bounds) z k l, bounds-at k l)
 
-  pub accepted-back : Passes s (at (force s fs .flags)) → lowest s (force s fs .bounds) ≡ 0
-  accepted-back pass =
-      ⊎-elim
-      (λ f.
-      let k : ℕ = lowest s (force s fs .bounds) - 1 in
-      let l : k < s .count = omega (arith, f .low, f .high) in
-      let none : at (force s fs .bounds) k ≡ 0 = eqb-true _ _ (f .holds) in
-      absurd (let y : ⊥ = omega (arith, pass k l, bounds-at k l) in y))
-      (λ n. n .0) says
+  pub passes-accepted : Passes s (at (force s fs .flags)) → lowest s (force s fs .bounds) ≡ 0
+  passes-accepted pass =
+      none-lowest s (force s fs .bounds) (λ k l. omega (arith, pass k l, bounds-at k l))
 
   -- Where forcing has ended and a task has no bound, no assignment that holds the tasks given as
   -- non-preemptive passes.
-  pub refused : 0 < lowest s (force s fs .bounds) → (c : ℕ → ℕ) → Holds s c (at fs) → Passes s c → ⊥
+  pub refused-final : 0 < lowest s (force s fs .bounds) → (c : ℕ → ℕ) → Holds s c (at fs) → Passes s c → ⊥
   unfolding force
-  refused pos c h pass =
-      ⊎-elim
-      (λ f.
-      let k : ℕ = lowest s (force s fs .bounds) - 1 in
-      let l : k < s .count = omega (arith, f .low, f .high) in
-      refused-final s timed (s .count) fs 0 legal few k l
-      (sym (bounds-at k l) ∙ eqb-true _ _ (f .holds)) c h pass)
-      (λ n. omega (arith, n .0)) says
+  refused-final pos c h pass = go (lowest s (force s fs .bounds)) refl pos
+    where
+      go : (x : ℕ) → lowest s (force s fs .bounds) ≡ x → 0 < x → ⊥
+      go zero e some = omega arith
+      go (suc k) e some =
+          let l : Lowest (force s fs .bounds) (s .count) k = lowest-some s (force s fs .bounds) k e in
+          run-refused s timed (s .count) fs 0 legal few k (l .inside)
+          (sym (bounds-at k (l .inside)) ∙ l .none) c h pass

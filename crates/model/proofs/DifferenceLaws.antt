@@ -1,15 +1,15 @@
 -- The differences of document 01's EDF sum, max(0, min(W, C - 1, l) - min(W, E, l)), are 0 without slack:
 -- E(k,i) is never below min(C_i, D_k), and no length of the range is above D_k.
 -- Assumes nothing.
-use Prim.Native.Nat.{ℕ, zero, suc, _+_, _*_, _-_, _/_, _%_, _≤_, min}
+use Prim.Native.Nat.{ℕ, zero, suc, _-_, _≤_, min}
 use native.Mathlib.Omega.{arith}
-use native.Mathlib.Nat.{div-add-mod', sub-eq-zero-of-le}
+use native.Mathlib.Nat.{sub-eq-zero-of-le}
 use mathlib.Core.Path.{_≡_, refl}
 use mathlib.Core.Bool.{Bool, true, false}
 use lib.Dec.{eqb}
-use Rattle.model.specs.Sums.{pick}
+use Rattle.base.specs.Choice.{pick}
 use Rattle.model.proofs.ValidationLaws.{E-least}
-use Rattle.model.specs.Bound.{Policy, EDF, FP, System, E, block, cap, blockOf}
+use Rattle.model.specs.Bound.{Policy, EDF, FP, System, block, cap, blockOf}
 
 capped : (w e c d q : ℕ) → min c d ≤ e → q ≤ d → min (min w (c - 1)) q ≤ min (min w e) q
 capped w e c d q y z = omega arith

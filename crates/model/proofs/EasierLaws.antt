@@ -14,8 +14,8 @@ use lib.Dec.{eqb, ltb}
 use Rattle.model.specs.Bound.{Policy, EDF, FP, System, Legal, workIn, W, E, share, block, byFlag}
 use Rattle.model.specs.Bound.{from, cap}
 use Rattle.model.specs.Bound.{shareOf, blockOf, B, bound}
-use Rattle.model.specs.Demands.{NoWorse}
-use Rattle.model.proofs.SumLaws.{whole-mono}
+use Rattle.base.specs.Least.{NoWorse}
+use Rattle.base.proofs.SumLaws.{whole-mono}
 use Rattle.model.proofs.TermLaws.{div-mono, cap-mono, pick-mono, pick-both, share-mono, both-order}
 use Rattle.model.proofs.BoundLaws.{bound-from-range}
 

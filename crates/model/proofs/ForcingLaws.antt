@@ -1,41 +1,33 @@
 -- Laws of forcing, over its passes: it ends, its flags are the least that settle, a refusal is final, and the
 -- order of single steps does not matter; and it gives the same from flags that agree on the table's places.
 -- The idea, once over both policies: a task without a bound stays without one while others are made
--- non-preemptive (`keeps`, Lemma 6).
+-- non-preemptive (`none-stays`, Lemma 6).
 -- Assumes nothing.
 use Prim.Native.Nat.{ℕ, zero, suc, _+_, _-_, _≤_, _<_}
 use native.Mathlib.Omega.{arith}
 use native.Mathlib.Nat.{le-refl, eq-zero-or-pos, le-antisymm}
 use mathlib.Core.Path.{_≡_, refl, sym, ap, ap₂, _∙_}
 use mathlib.Core.Logic.{_⊎_, inl, inr, ⊎-elim}
-use mathlib.Core.List.{List, _∷_}
+use mathlib.Core.List.{List}
 use mathlib.Core.Bool.{Bool, true, false}
 use lib.Dec.{eqb}
 use borrow.Author.Tests.{eqb-true, eqb-false}
-use Rattle.model.specs.Demands.{NoWorse, Timed, Passes, Settled, Holds, Flags, Step, Steps, stay}
+use Rattle.base.specs.Least.{NoWorse}
+use Rattle.model.specs.Demands.{Timed, Passes, Settled, Holds, Flags, Step, Steps, stay}
 use Rattle.model.specs.Demands.{more, Forces, Same, Alike}
-use Rattle.model.specs.Sums.{sumTo}
-use Rattle.model.proofs.SumLaws.{sum-add, sum-same, sum-part}
+use Rattle.base.specs.Sums.{sumTo}
+use Rattle.base.proofs.SumLaws.{sum-add, sum-same, sum-part}
 use Rattle.model.specs.Bound.{System, bound}
 use Rattle.model.proofs.BoundLaws.{bound-order, bound-same}
-use Rattle.model.specs.Forcing.{at, tab, test, lacks, lacking, made, Final, choose, run}
-
--- an element of a list that is worked out
-from : (f : ℕ → ℕ) (i n j : ℕ) → j < n → at (tab f i n) j ≡ f (i + j)
-unfolding tab
-from f i zero j h = absurd (let z : ⊥ = omega arith in z)
-from f i (suc n) zero h = ap f (let e : i ≡ i + 0 = omega arith in e)
-from f i (suc n) (suc j) h =
-    from f (suc i) n j (omega arith) ∙ ap f (let e : suc i + j ≡ i + suc j = omega arith in e)
-
-pub tab-at : (f : ℕ → ℕ) (n j : ℕ) → j < n → at (tab f 0 n) j ≡ f j
-tab-at f n j h = from f 0 n j h ∙ ap f (let e : 0 + j ≡ j = omega arith in e)
+use Rattle.base.specs.Rows.{at}
+use Rattle.base.proofs.RowLaws.{list-at, list-same}
+use Rattle.model.specs.Forcing.{test, lacks, lacking, made, Final, choose, run}
 
 module _ (s : System) (timed : Timed s) where
   -- Lemma 6, as forcing uses it
-  pub keeps : (a b : ℕ → ℕ) → Holds s b a → (k : ℕ) → k < s .count → b k ≡ a k → bound s a k ≡ 0
+  pub none-stays : (a b : ℕ → ℕ) → Holds s b a → (k : ℕ) → k < s .count → b k ≡ a k → bound s a k ≡ 0
       → bound s b k ≡ 0
-  keeps a b h k lt own z =
+  none-stays a b h k lt own z =
       ⊎-elim (λ e. e)
       (λ p.
       let w : NoWorse (bound s a k) (bound s b k) =
@@ -51,7 +43,7 @@ module _ (s : System) (timed : Timed s) where
       go : (x : ℕ) → c i ≡ x → (b i ≡ 0) × (bound s a i ≡ 0) → c i ≤ b i
       go zero e z = omega arith
       go (suc x) e z =
-          let none : bound s c i ≡ 0 = keeps a c h i lt (omega (arith, h i lt, legal i lt)) (z .1) in
+          let none : bound s c i ≡ 0 = none-stays a c h i lt (omega (arith, h i lt, legal i lt)) (z .1) in
           absurd (let y : ⊥ = omega (arith, set i lt (omega arith)) in y)
 
 pub choose-case : (P : Final → Type 0) (x : ℕ) (a b : Final) → (x ≡ 0 → P a) → (0 < x → P b)
@@ -80,12 +72,12 @@ lacks-whole (suc x) (suc b) = omega arith
 module _ (s : System) where
   pub test-at : (fs : List ℕ) (k : ℕ) → k < s .count → at (test s fs) k ≡ bound s (at fs) k
   unfolding test
-  test-at fs k h = tab-at (bound s (at fs)) (s .count) k h
+  test-at fs k h = list-at 0 (bound s (at fs)) (s .count) k h
 
   pub made-at : (fs bs : List ℕ) (k : ℕ) → k < s .count
       → at (made s fs bs) k ≡ at fs k - lacks (at fs k) (at bs k)
   unfolding made
-  made-at fs bs k h = tab-at _ (s .count) k h
+  made-at fs bs k h = list-at 0 _ (s .count) k h
 
   pub made-step : (fs : List ℕ) → Flags s (at fs) → Forces s (at fs) (at (made s fs (test s fs)))
   made-step fs legal i lt =
@@ -150,16 +142,17 @@ module _ (s : System) (timed : Timed s) where
       (step-holds s timed c (at fs) (at (made s fs (test s fs))) legal set h (made-step s fs legal)))
 
   -- where forcing ends with a task without a bound no assignment passes
-  pub refused-final : (f : ℕ) (fs : List ℕ) (p : ℕ) → Flags s (at fs) → sumTo (at fs) (s .count) ≤ f
+  pub run-refused : (f : ℕ) (fs : List ℕ) (p : ℕ) → Flags s (at fs) → sumTo (at fs) (s .count) ≤ f
       → (k : ℕ) → k < s .count → bound s (at (run s f fs p .flags)) k ≡ 0
       → (c : ℕ → ℕ) → Holds s c (at fs) → Passes s c → ⊥
-  refused-final f fs p legal few k lt z c h pass =
+  run-refused f fs p legal few k lt z c h pass =
       let e : at (run s f fs p .flags) k ≡ 0 =
       ⊎-elim (λ x. x)
       (λ pre. absurd (let y : ⊥ = omega (arith, run-settled s f fs p few k lt pre) in y))
       (eq-zero-or-pos _) in
       let g : Holds s c (at (run s f fs p .flags)) = run-least f fs p c legal (λ j l _. pass j l) h in
-      let y : bound s c k ≡ 0 = keeps s timed (at (run s f fs p .flags)) c g k lt (omega (arith, g k lt)) z in
+      let y : bound s c k ≡ 0 =
+      none-stays s timed (at (run s f fs p .flags)) c g k lt (omega (arith, g k lt)) z in
       omega (arith, pass k lt)
 
 module _ (s : System) (timed : Timed s) where
@@ -198,24 +191,17 @@ module _ (s : System) (timed : Timed s) where
   confluent {a} {b} {c} legal x y sb sc i lt =
       le-antisymm (steps-hold y b legal sb (steps-fall x) i lt) (steps-hold x c legal sc (steps-fall y) i lt)
 
-tab-same : (f g : ℕ → ℕ) (i n : ℕ) → ((k : ℕ) → k < i + n → g k ≡ f k) → tab f i n ≡ tab g i n
-unfolding tab
-tab-same f g i zero h = refl
-tab-same f g i (suc n) h =
-    ap₂ _∷_ (sym (h i (omega arith))) (tab-same f g (suc i) n (λ k l. h k (omega arith)))
-
 module _ (s : System) (timed : Timed s) where
   pub test-same : (a b : List ℕ) → Same (s .count) a b → test s a ≡ test s b
   unfolding test
   test-same a b h =
-      tab-same _ _ 0 (s .count)
-      (λ k l. sym (bound-same s (at a) (at b) k (timed k (omega arith)) (omega arith) h))
+      list-same _ _ (s .count) (λ k l. bound-same s (at a) (at b) k (timed k l) l h)
 
   pub made-same : (a b bs bs′ : List ℕ) → Same (s .count) a b → Same (s .count) bs bs′
       → made s a bs ≡ made s b bs′
   unfolding made
   made-same a b bs bs′ h h′ =
-      tab-same _ _ 0 (s .count) (λ k l. ap₂ (λ x y. x - lacks x y) (h k (omega arith)) (h′ k (omega arith)))
+      list-same _ _ (s .count) (λ k l. sym (ap₂ (λ x y. x - lacks x y) (h k l) (h′ k l)))
 
   pub lacking-same : (a b bs bs′ : List ℕ) → Same (s .count) a b → Same (s .count) bs bs′
       → lacking s a bs ≡ lacking s b bs′

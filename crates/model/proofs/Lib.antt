@@ -1,6 +1,3 @@
-pub mod SumLaws
-pub mod TopLaws
-pub mod LeastLaws
 pub mod TermLaws
 pub mod BoundLaws
 pub mod LengthLaws
@@ -12,6 +9,7 @@ pub mod EasierLaws
 pub mod DifferenceLaws
 pub mod ForcingLaws
 pub mod PassLaws
+pub mod LowestLaws
 pub mod DemandLaws
-pub mod OrderLaws
+pub mod StepLaws
 pub mod CoreLaws

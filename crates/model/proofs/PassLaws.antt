@@ -6,15 +6,16 @@ use Prim.Native.Nat.{ℕ, zero, suc, _+_, _-_, _≤_, _<_}
 use native.Mathlib.Omega.{arith}
 use mathlib.Core.Path.{_≡_, refl, sym, ap, _∙_}
 use mathlib.Core.List.{List}
-use Rattle.model.specs.Sums.{sumTo}
-use Rattle.model.proofs.SumLaws.{sum-cap, sum-same}
+use Rattle.base.specs.Sums.{sumTo}
+use Rattle.base.proofs.SumLaws.{sum-cap, sum-same}
 use Rattle.model.specs.Bound.{System, bound}
-use Rattle.model.specs.Forcing.{at, test, lacks, lacking, made, Final, run, force}
+use Rattle.base.specs.Rows.{at}
+use Rattle.model.specs.Forcing.{test, lacks, lacking, made, Final, run, force}
 use Rattle.model.specs.Demands.{Timed, Flags, Same, Alike}
 use Rattle.model.proofs.ForcingLaws.{alike-refl, test-at, made-at, made-count, made-flags, run-last}
 use Rattle.model.proofs.ForcingLaws.{run-more, run-same}
 
-pub alike-trans : (n : ℕ) (a b c : Final) → Alike n a b → Alike n b c → Alike n a c
+alike-trans : (n : ℕ) (a b c : Final) → Alike n a b → Alike n b c → Alike n a c
 alike-trans n a b c x y = record {
   flags = λ k l. y .flags k l ∙ x .flags k l;
   bounds = λ k l. y .bounds k l ∙ x .bounds k l;

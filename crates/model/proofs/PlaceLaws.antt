@@ -9,12 +9,13 @@ use mathlib.Core.Logic.{_⊎_, ⊎-elim}
 use mathlib.Core.Bool.{Bool, true, false}
 use lib.Dec.{eqb, ltb}
 use borrow.Author.Tests.{eqb-true, eqb-false, eq-eqb, ne-eqb}
-use Rattle.model.specs.Sums.{pick, sumTo, topTo}
+use Rattle.base.specs.Choice.{pick}
+use Rattle.base.specs.Sums.{sumTo, topTo}
 use Rattle.model.specs.Bound.{EDF, System, W, E, share, block, cap, shareOf, blockOf, B, bound}
-use Rattle.model.specs.Demands.{NoWorse}
+use Rattle.base.specs.Least.{NoWorse}
 use Rattle.model.proofs.TermLaws.{cap-mono, div-mono}
 use Rattle.model.proofs.BoundLaws.{bound-from-B}
-use Rattle.model.proofs.SumLaws.{sum-same, top-same, top-count, sum-one}
+use Rattle.base.proofs.SumLaws.{sum-same, top-same, top-count, sum-one}
 
 -- f with 0 at place p
 abbrev but : (ℕ → ℕ) → ℕ → ℕ → ℕ

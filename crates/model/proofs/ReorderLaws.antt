@@ -6,7 +6,7 @@ use native.Mathlib.Omega.{arith}
 use mathlib.Core.Path.{_≡_, sym, ap, _∙_}
 use mathlib.Core.Logic.{inl}
 use Rattle.model.specs.Bound.{EDF, System, bound}
-use Rattle.model.proofs.LeastLaws.{no-worse-both}
+use Rattle.base.proofs.LeastLaws.{no-worse-both}
 use Rattle.model.proofs.PlaceLaws.{Within, left-out}
 
 -- e and back are inverse to each other on the places below n

@@ -12,12 +12,13 @@ use mathlib.Core.Bool.{Bool, true, false}
 use mathlib.Core.Logic.{_⊎_, inl, inr}
 use lib.Dec.{eqb}
 use borrow.Author.Tests.{eqb-true, eqb-false}
-use Rattle.model.specs.Sums.{pick, sumTo, topTo}
+use Rattle.base.specs.Choice.{pick}
+use Rattle.base.specs.Sums.{sumTo, topTo}
 use Rattle.model.specs.Bound.{Policy, FP, System, workIn, W, share, block, cap}
 use Rattle.model.specs.Bound.{shareOf, blockOf, B, bound}
 use Rattle.model.specs.Seen.{Seen, seenAt, sees, seenTo, seen}
-use Rattle.model.proofs.SumLaws.{top-count}
-use Rattle.model.proofs.LeastLaws.{no-worse-both}
+use Rattle.base.proofs.SumLaws.{top-count}
+use Rattle.base.proofs.LeastLaws.{no-worse-both}
 use Rattle.model.proofs.TermLaws.{cap-mono}
 use Rattle.model.proofs.BoundLaws.{bound-from-B}
 

@@ -9,8 +9,8 @@ use mathlib.Core.Logic.{⊎-elim}
 use native.Mathlib.Nat.{mul-le-mul-right, eq-or-lt-of-le, div-mul-le-self, div-add-mod'}
 use native.Mathlib.Nat.{le-div-iff-mul-le, le-trans, eq-zero-or-pos, div-zero, le-refl}
 use lib.Dec.{ltb, eqb}
-use Rattle.model.specs.Sums.{pick}
-use Rattle.model.proofs.SumLaws.{whole-mono}
+use Rattle.base.specs.Choice.{pick}
+use Rattle.base.proofs.SumLaws.{whole-mono}
 use Rattle.model.specs.Bound.{Policy, EDF, FP, System, under, workIn, W, E, share, block}
 use Rattle.model.specs.Bound.{cap, shareOf, blockOf, B}
 
@@ -130,45 +130,3 @@ E-least d t c = go (d / t) (d % t) (div-add-mod' d t)
     go : (a r : ℕ) → a * t + r ≡ d → min c d ≤ a * c + min c (r - 0)
     go zero r e = omega arith
     go (suc a) r e = omega arith
-
--- no term is above the cap
-pub share-cap : (p : Policy) (fk fi : ℕ) (h : Bool) (w e q : ℕ) → share p fk fi h w e q ≤ q
-unfolding share
-share-cap EDF zero fi h w e q = omega arith
-share-cap EDF (suc _) zero h w e q = omega arith
-share-cap EDF (suc _) (suc _) h w e q = omega arith
-share-cap FP zero fi true w e q = omega arith
-share-cap FP zero fi false w e q = omega arith
-share-cap FP (suc _) fi true w e q = omega arith
-share-cap FP (suc _) zero false w e q = omega arith
-share-cap FP (suc _) (suc _) false w e q = omega arith
-
-pub block-cap : (p : Policy) (fk fi : ℕ) (h t : Bool) (w e c q : ℕ) → block p fk fi h t w e c q ≤ q
-unfolding block
-block-cap p (suc _) fi h t w e c q = omega arith
-block-cap p zero (suc _) h t w e c q = omega arith
-block-cap EDF zero zero h true w e c q = omega arith
-block-cap EDF zero zero h false w e c q = omega arith
-block-cap FP zero zero true t w e c q = omega arith
-block-cap FP zero zero false t w e c q = omega arith
-
-module _ (s : System) (fl : ℕ → ℕ) (k l i : ℕ) where
-  pick-cap : (b : Bool) (x q : ℕ) → x ≤ q → pick b 0 x ≤ q
-  pick-cap true x q h = omega arith
-  pick-cap false x q h = h
-
-  cap-cap : cap s fl k l ≤ l + 1
-  unfolding cap
-  cap-cap = go (fl k) refl
-    where
-      go : (f : ℕ) → fl k ≡ f → cap s fl k l ≤ l + 1
-      go zero e = rw e (omega arith)
-      go (suc f) e = rw e (omega arith)
-
-  pub shareOf-cap : shareOf s fl k l i ≤ l + 1
-  unfolding shareOf
-  shareOf-cap = le-trans (pick-cap (eqb i k) _ _ (share-cap _ _ _ _ _ _ _)) cap-cap
-
-  pub blockOf-cap : blockOf s fl k l i ≤ l + 1
-  unfolding blockOf
-  blockOf-cap = le-trans (pick-cap (eqb i k) _ _ (block-cap _ _ _ _ _ _ _ _ _)) cap-cap

@@ -10,10 +10,11 @@ use mathlib.Core.Logic.{⊎-elim}
 use mathlib.Core.Bool.{Bool, true, false}
 use lib.Dec.{eqb}
 use borrow.Author.Tests.{eq-eqb}
-use Rattle.model.specs.Sums.{pick, sumTo}
+use Rattle.base.specs.Choice.{pick}
+use Rattle.base.specs.Sums.{sumTo}
 use Rattle.model.specs.Bound.{Policy, EDF, FP, System, Legal, workIn, W, E, share, block, byFlag, from}
 use Rattle.model.specs.Bound.{cap, shareOf, blockOf, B, bound}
-use Rattle.model.proofs.SumLaws.{sum-add, sum-cap, top-sum}
+use Rattle.base.proofs.SumLaws.{sum-add, sum-cap, top-sum}
 use Rattle.model.proofs.LengthLaws.{bound-only}
 
 -- W_i(l) is never below min(C_i, l): the window has at least l quanta.

@@ -16,7 +16,9 @@
 use Prim.Native.Nat.{ℕ, zero, suc, _+_, _*_, _-_, _/_, _%_, _≤_, _<_, min}
 use mathlib.Core.Bool.{Bool, true, false}
 use lib.Dec.{leb, ltb, eqb}
-use Rattle.model.specs.Sums.{pick, sumTo, topTo, least}
+use Rattle.base.specs.Choice.{pick}
+use Rattle.base.specs.Sums.{sumTo, topTo}
+use Rattle.base.specs.Least.{least}
 
 pub data Policy : Type 0 where
   EDF FP : Policy

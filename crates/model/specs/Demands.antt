@@ -6,12 +6,8 @@ use mathlib.Core.Path.{_≡_}
 use mathlib.Core.Logic.{_⊎_}
 use mathlib.Core.List.{List}
 use Rattle.model.specs.Bound.{System, bound}
-use Rattle.model.specs.Forcing.{at, Final}
-
--- r, with 0 for "none", is no worse than r′: where r′ is an answer r is one, and is no larger
-pub record NoWorse (r r′ : ℕ) : Type 0 where
-  pub some : 0 < r′ → 0 < r
-  pub less : 0 < r′ → r ≤ r′
+use Rattle.base.specs.Rows.{at}
+use Rattle.model.specs.Forcing.{Final}
 
 -- every execution time is at least 1: all that the laws of forcing need of a legal table
 abbrev pub Timed : System → Type 0

@@ -10,27 +10,19 @@
 --
 -- Assumes nothing.
 use Prim.Native.Nat.{ℕ, zero, suc, _-_}
-use mathlib.Core.List.{List, [], _∷_}
-use lib.ListN.{getD}
+use mathlib.Core.List.{List}
 use lib.Dec.{eqb}
-use Rattle.model.specs.Sums.{sumTo, least}
+use Rattle.base.specs.Sums.{sumTo}
+use Rattle.base.specs.Least.{firstOf}
+use Rattle.base.specs.Rows.{at, listOf}
 use Rattle.model.specs.Bound.{System, bound}
-
--- the number at a place of a list, 0 past its end
-abbrev pub at : List ℕ → ℕ → ℕ
-at xs i = getD xs i 0
-
--- f i, f (i + 1), .. : n of them
-unfoldable pub tab : (ℕ → ℕ) → ℕ → ℕ → List ℕ
-tab f i zero = []
-tab f i (suc n) = f i ∷ tab f (suc i) n
 
 -- one test of the whole table
 unfoldable pub test : System → List ℕ → List ℕ
-test s fs = tab (bound s (at fs)) 0 (s .count)
+test s fs = listOf (bound s (at fs)) (s .count)
 
 unfoldable pub lowest : System → List ℕ → ℕ
-lowest s bs = least (λ j. eqb (at bs (j - 1)) 0) (s .count) 1
+lowest s bs = firstOf (λ k. eqb (at bs k) 0) (s .count)
 
 -- by flag and bound: 1 for a preemptive task without a bound
 unfoldable pub lacks : ℕ → ℕ → ℕ
@@ -44,7 +36,7 @@ lacking s fs bs = sumTo (λ k. lacks (at fs k) (at bs k)) (s .count)
 
 -- the flags, with every preemptive task without a bound made non-preemptive
 unfoldable pub made : System → List ℕ → List ℕ → List ℕ
-made s fs bs = tab (λ k. at fs k - lacks (at fs k) (at bs k)) 0 (s .count)
+made s fs bs = listOf (λ k. at fs k - lacks (at fs k) (at bs k)) (s .count)
 
 -- where forcing ends
 pub record Final : Type 0 where

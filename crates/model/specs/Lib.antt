@@ -1,5 +1,5 @@
-pub mod Sums
 pub mod Bound
+pub mod Lengths
 pub mod Forcing
 pub mod Demands
 pub mod Seen

@@ -10,7 +10,7 @@ use Prim.Native.Nat.{ℕ, zero, suc}
 use mathlib.Core.Bool.{Bool, true, false}
 use mathlib.Core.List.{List, [], _∷_}
 use lib.Dec.{eqb}
-use Rattle.model.specs.Sums.{pick}
+use Rattle.base.specs.Choice.{pick}
 use Rattle.model.specs.Bound.{System}
 
 pub record Seen : Type 0 where

@@ -8,7 +8,7 @@ use mathlib.Core.Logic.{⊎-elim}
 use mathlib.Core.List.{List, [], _∷_, _++_}
 use lib.ListN.{length, getD, length-append, List·getD-append}
 use borrow.Author.Tests.{lt-ltb, le-ltb}
-use Rattle.model.proofs.LeastLaws.{le-or-lt}
+use Rattle.base.proofs.OrderLaws.{le-or-lt}
 use Rattle.page.specs.Decimal.{digits, decimal, valueFrom, valueOf}
 
 -- the last digit, after others

@@ -1,4 +1,3 @@
-pub mod PageLaws
 pub mod DecimalLaws
 pub mod NumberLaws
 pub mod WordLaws

@@ -5,9 +5,9 @@ use native.Mathlib.Omega.{arith}
 use mathlib.Core.Path.{ap}
 use mathlib.Core.List.{List, [], _∷_}
 use lib.ListN.{length, length-append}
-use Rattle.page.specs.Page.{Put}
+use Rattle.buffer.specs.Put.{Put}
 use Rattle.page.specs.Decimal.{decimal}
-use Rattle.page.proofs.PageLaws.{put-then}
+use Rattle.buffer.proofs.PutLaws.{put-then}
 use Rattle.page.proofs.DecimalLaws.{decimal-small, decimal-more}
 
 -- how far the digits reach, up to an end L of the room

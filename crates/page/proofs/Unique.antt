@@ -4,10 +4,10 @@
 use Prim.Native.Nat.{ℕ}
 use mathlib.Core.Path.{_≡_}
 use mathlib.Core.List.{List, _++_}
-use Rattle.page.specs.Page.{Put}
+use Rattle.buffer.specs.Put.{Put}
 use Rattle.page.specs.Decimal.{decimal}
 use Rattle.page.specs.Words.{either}
-use Rattle.page.proofs.PageLaws as laws
+use Rattle.buffer.proofs.PutLaws as laws
 
 -- the buffer s and the place at allow one result for the word w
 abbrev pub Only : List ℕ → ℕ → List ℕ → Type 0

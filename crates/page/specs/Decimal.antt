@@ -3,7 +3,7 @@
 use Prim.Native.Nat.{ℕ, zero, suc, _+_, _*_, _-_, _/_, _%_}
 use mathlib.Core.List.{List, [], _∷_, _++_}
 use lib.Dec.{ltb}
-use Rattle.model.specs.Sums.{pick}
+use Rattle.base.specs.Choice.{pick}
 
 -- the digits of n, in at most f turns: the last digit comes after those of n / 10; n + 1 turns are enough
 unfoldable pub digits : ℕ → ℕ → List ℕ

@@ -1,9 +1,8 @@
 // Words and decimal numbers, written one after the other into a buffer that the caller lends.
-ghost use mathlib.Core.Path.{_≡_};
 ghost use mathlib.Core.List.{[], _∷_, _++_};
 ghost use Prim.Native.Nat.{_+_, _<_, _≤_};
 ghost use lib.ListN.{length};
-ghost use Rattle.page.specs.Page.{Put};
+ghost use Rattle.buffer.specs.Put.{Put};
 ghost use Rattle.page.specs.Decimal.{decimal};
 ghost use Rattle.page.specs.Words.{either};
 

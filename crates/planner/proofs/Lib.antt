@@ -1,6 +1,9 @@
-pub mod Kit
-pub mod Walk
-pub mod Putting
-pub mod Passed
-pub mod Loading
+pub mod JoinLaws
+pub mod LegalLaws
+pub mod CallLaws
+pub mod WayLaws
+pub mod CountLaws
+pub mod AfterLaws
+pub mod StageLaws
+pub mod Theorems
 pub mod Unique

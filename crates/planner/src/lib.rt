@@ -1,127 +1,218 @@
-// The planner's two entries: a plan, or a list of tasks, is tested or forced, and the records go to the
-// caller's list. Neither asks anything of its caller. The work is done by value in `answer`; what is here
-// moves records and tasks.
+// The planner by value, in stages: a plan is read, or a table is checked; there is room for its records; and
+// the legal table is answered. Document 01, "Testing and forcing" and "Numbered refusals".
 ghost use mathlib.Core.Path.{_≡_};
-ghost use Prim.Native.Nat.{_≤_, _<_, min};
-ghost use lib.ListN.{length, set, replicate};
-ghost use Rattle.table.specs.Table.{noTask};
-ghost use Rattle.answer.specs.Records.{recordAt};
-ghost use Rattle.answer.specs.Done.{planDone, tasksDone, loaded, written};
-use answer::Answer;
-use answer::Done;
-use answer::Job;
-use answer::Record;
+ghost use Prim.Native.Nat.{_≤_};
+ghost use lib.Dec.{eqb};
+ghost use Rattle.base.specs.Least.{firstOf};
+ghost use Rattle.base.specs.Rows.{at};
+ghost use Rattle.table.specs.Table.{LegalTable};
+ghost use Rattle.flags.specs.Flags.{flagIn};
+ghost use Rattle.planner.specs.Answers.{changes, recordsOf};
+ghost use Rattle.planner.specs.Done.{refuse, testDone, forceDone, legalDone, roomDone, planDone};
+ghost use Rattle.planner.specs.Done.{listDone};
+use flags::Flags;
+use table::Checked;
+use table::Refusal;
+use table::Table;
 use table::Task;
 
-// What `put_done` asks of an answer.
-fn nth(d: Done, i: usize) -> Record
-    requires { ⌜ i < 32 ⌝ }
-    ensures { λ r. ⌜ r ≡ recordAt (d .recs) i ⌝ }
-{
-    d.recs[i]
+// One record of an answer: the task's flag, 1 if it was forced, and its bound, 0 for none.
+#[repr(C)]
+pub struct Record {
+    pub flag: u32,
+    pub forced: u32,
+    pub bound: u32,
 }
 
-fn count_of(d: Done) -> usize
-    ensures { λ r. ⌜ r ≡ d .count ⌝ }
-{
-    d.count
+// What is said of a legal table: a test's yes or no; forcing that accepts says yes, with its forced tasks and
+// passes.
+pub struct Verdict {
+    pub yes: bool,
+    pub forced: u32,
+    pub passes: u32,
 }
 
-fn answer_of(d: Done) -> Answer
-    ensures { λ r. ⌜ r ≡ d .answer ⌝ }
-{
-    let answer = d.answer;
-    answer
+// A verdict, or a refusal with the passes that were made.
+pub enum Answer {
+    Given(Verdict),
+    Refused { why: Refusal, passes: u32 },
 }
 
-// The records of an answer go into the first places of the caller's list, and the rest of the list stays.
-fn put_done(records: &mut [Record], d: Done) -> Answer
-    requires { ⌜ (d .count ≤ length (now records)) × (d .count ≤ 32) ⌝ }
-    ensures { λ r. ⌜ (r ≡ d .answer) × (now (records .exit) ≡ written d (now (records .entry))) ⌝ }
-{
-    let n = count_of(d);
-    let mut i: usize = 0;
-    while i < n {
-        let r = nth(d, i);
-        records[i] = r;
-        i += 1;
-    }
-    answer_of(d)
+// An answer with its records beside it. The first count of them go to the caller's list, none if it refuses.
+pub struct Done {
+    pub answer: Answer,
+    pub count: usize,
+    pub recs: [Record; 32],
 }
 
-// What `load_tasks` asks of an array of tasks.
-fn blank_tasks() -> [Task; 32]
-    ensures { λ r. ⌜ r ≡ replicate 32 noTask ⌝ }
+// What is asked for.
+pub enum Job {
+    Test,
+    Force,
+}
+
+// What stands past the last record.
+pub const NO_RECORD: Record = Record {
+    flag: 0,
+    forced: 0,
+    bound: 0,
+};
+
+// A refusal: no record goes to the caller.
+fn refused(why: Refusal, passes: u32) -> Done
+    ensures { λ r. ⌜ r ≡ refuse why passes ⌝ }
 {
-    let none = Task {
-        flag: 0,
-        period: 0,
-        cost: 0,
-        deadline: 0,
+    let answer = Answer::Refused {
+        why: why,
+        passes: passes,
     };
-    [none; 32]
+    Done {
+        answer: answer,
+        count: 0,
+        recs: [NO_RECORD; 32],
+    }
 }
 
-fn put_task(tasks: [Task; 32], i: usize, task: Task) -> [Task; 32]
-    requires { ⌜ i < 32 ⌝ }
-    ensures { λ r. ⌜ r ≡ set tasks i task ⌝ }
+// A record for each of the first n tasks, with the forced mark where the flag is not the given one.
+fn records(n: usize, given: Flags, flags: Flags, bounds: [u32; 32]) -> [Record; 32]
+    requires { ⌜ n ≤ 32 ⌝ }
+    ensures { λ r. ⌜ r ≡ recordsOf n (flagIn flags) (changes (flagIn given) (flagIn flags)) (at bounds) ⌝ }
 {
-    let mut all = tasks;
-    all[i] = task;
-    all
-}
-
-fn capped(n: usize) -> usize
-    ensures { λ r. ⌜ r ≡ min n 32 ⌝ }
-{
-    if n < 32 { n } else { 32 }
-}
-
-// The first 32 tasks of the caller's list, with zeros past its end.
-fn load_tasks(tasks: &[Task]) -> [Task; 32]
-    ensures { λ r. ⌜ r ≡ loaded (now (tasks .entry)) ⌝ }
-{
-    let n = capped(tasks.len());
-    let mut all = blank_tasks();
+    let mut recs = [NO_RECORD; 32];
     let mut i: usize = 0;
     while i < n {
-        let task = tasks[i];
-        all = put_task(all, i, task);
+        let flag = flags::flag_at(flags, i);
+        let forced = flags::change(flags::flag_at(given, i), flag);
+        let one = Record {
+            flag: flag,
+            forced: forced,
+            bound: bounds[i],
+        };
+        recs[i] = one;
         i += 1;
     }
-    all
+    recs
 }
 
-// A plan in lines of hexadecimal. A refusal leaves the records as they were; else each task has one, and the
-// rest stay.
-pub fn run_plan(text: &[u8], job: Job, records: &mut [Record]) -> Answer
-    ensures { λ r. ⌜ (r ≡ planDone (now (text .entry)) job (length (now (records .entry))) .answer)
-        × (now (records .exit)
-        ≡ written (planDone (now (text .entry)) job (length (now (records .entry))))
-        (now (records .entry))) ⌝ }
+// The number of the lowest task without a bound, and 0 where all have one.
+fn failing_task(n: usize, bounds: [u32; 32]) -> u32
+    requires { ⌜ n ≤ 32 ⌝ }
+    ensures { λ r. ⌜ r ≡ firstOf (λ k. eqb (at bounds k) 0) n ⌝ }
 {
-    let room = records.len();
-    let d = answer::plan_core(text, job, room);
-    put_done(records, d)
+    flags::lowest_failing(flags::failing_of(n, bounds))
 }
 
-// Cores, policy and a list of tasks, whatever their numbers are. The records go as for a plan.
-pub fn run_tasks(
+// The test of a legal table.
+fn tested(t: Table) -> Done
+    requires { ⌜ LegalTable t ⌝ }
+    ensures { λ r. ⌜ r ≡ testDone t ⌝ }
+{
+    let n = t.n;
+    let given = flags::flags_of(t);
+    let bounds = forcing::test_table(t);
+    let failing = failing_task(n, bounds);
+    let verdict = Verdict {
+        yes: failing == 0,
+        forced: 0,
+        passes: 0,
+    };
+    Done {
+        answer: Answer::Given(verdict),
+        count: n,
+        recs: records(n, given, given, bounds),
+    }
+}
+
+// Forcing of a legal table: refused with the lowest failing task and the passes, or accepted.
+fn forced(t: Table) -> Done
+    requires { ⌜ LegalTable t ⌝ }
+    ensures { λ r. ⌜ r ≡ forceDone t ⌝ }
+{
+    let n = t.n;
+    let given = flags::flags_of(t);
+    let end = forcing::force_table(t);
+    let flags = end.flags;
+    let bounds = end.bounds;
+    let failing = failing_task(n, bounds);
+    if failing != 0 {
+        let why = Refusal {
+            number: 14,
+            place: failing,
+        };
+        return refused(why, end.passes);
+    }
+    let verdict = Verdict {
+        yes: true,
+        forced: flags::count_changed(given, flags),
+        passes: end.passes,
+    };
+    Done {
+        answer: Answer::Given(verdict),
+        count: n,
+        recs: records(n, given, flags, bounds),
+    }
+}
+
+// What a legal table is answered.
+pub fn legal_done(t: Table, job: Job) -> Done
+    requires { ⌜ LegalTable t ⌝ }
+    ensures { λ r. ⌜ r ≡ legalDone t job ⌝ }
+{
+    match job {
+        Job::Test => tested(t),
+        Job::Force => forced(t),
+    }
+}
+
+// 13 before any test, where the caller's list has too little room.
+fn room_done(t: Table, job: Job, room: usize) -> Done
+    requires { ⌜ LegalTable t ⌝ }
+    ensures { λ r. ⌜ r ≡ roomDone t job room ⌝ }
+{
+    let n = t.n;
+    if room < n {
+        let why = Refusal {
+            number: 13,
+            place: 0,
+        };
+        return refused(why, 0);
+    }
+    legal_done(t, job)
+}
+
+// The answer to a plan; room is the length of the caller's list.
+pub fn plan_done(text: &[u8], job: Job, room: usize) -> Done
+    ensures { λ r. ⌜ r ≡ planDone (now (text .entry)) job room ⌝ }
+{
+    let reading = lines::read_plan(text);
+    let found = reading.answer;
+    let t = reading.table;
+    match found {
+        Checked::Fine => room_done(t, job, room),
+        Checked::Refused(why) => refused(why, 0),
+    }
+}
+
+// The answer to a list of n tasks, of which those past the 32nd are not there.
+pub fn list_done(
     cores: u32,
     policy: u32,
-    tasks: &[Task],
+    n: usize,
+    tasks: [Task; 32],
     job: Job,
-    records: &mut [Record],
-) -> Answer
-    ensures { λ r. ⌜ (r
-        ≡ tasksDone cores policy (now (tasks .entry)) job (length (now (records .entry))) .answer)
-        × (now (records .exit)
-        ≡ written (tasksDone cores policy (now (tasks .entry)) job (length (now (records .entry))))
-        (now (records .entry))) ⌝ }
+    room: usize,
+) -> Done
+    ensures { λ r. ⌜ r ≡ listDone cores policy n tasks job room ⌝ }
 {
-    let n = tasks.len();
-    let room = records.len();
-    let all = load_tasks(tasks);
-    let d = answer::list_core(cores, policy, n, all, job, room);
-    put_done(records, d)
+    let t = Table {
+        cores: cores,
+        policy: policy,
+        n: n,
+        tasks: tasks,
+    };
+    let found = table::check_table(t);
+    match found {
+        Checked::Fine => room_done(t, job, room),
+        Checked::Refused(why) => refused(why, 0),
+    }
 }

@@ -11,11 +11,12 @@ use mathlib.Core.Bool.{Bool, true, false}
 use mathlib.Core.Logic.{⊎-elim}
 use lib.Dec.{ltb}
 use borrow.Author.Tests.{ltb-true, lt-ltb, not-true}
-use Rattle.model.specs.Sums.{sumTo, pick}
+use Rattle.base.specs.Sums.{sumTo}
+use Rattle.base.specs.Choice.{pick}
 use Rattle.model.specs.Bound.{Policy, EDF, FP, System}
-use Rattle.model.proofs.SumLaws.{sum-mono, sum-part}
-use Rattle.model.proofs.LeastLaws.{le-or-lt}
-use Rattle.model.proofs.TopLaws.{Choice}
+use Rattle.base.proofs.SumLaws.{sum-mono, sum-part}
+use Rattle.base.proofs.OrderLaws.{le-or-lt}
+use Rattle.base.proofs.TopLaws.{Choice}
 use Rattle.schedule.specs.Schedule.{Run, done, busy, Pending, lower}
 use Rattle.schedule.proofs.Counts.{zero-unless, pos-unless, sum-zero, some-place, one-at-most}
 use Rattle.schedule.proofs.Facts.{Base, done-long, done-suc, started, no-more, spaced}

@@ -7,7 +7,8 @@ use native.Mathlib.Omega.{arith}
 use mathlib.Core.Path.{_≡_, refl, ap, _∙_, subst}
 use mathlib.Core.Bool.{true, false}
 use mathlib.Core.List.{[], _∷_}
-use Rattle.model.specs.Sums.{sumTo, topTo, least}
+use Rattle.base.specs.Sums.{sumTo, topTo}
+use Rattle.base.specs.Least.{least, firstFrom}
 use Rattle.model.specs.Bound.{
   Legal,
   workIn,
@@ -24,7 +25,8 @@ use Rattle.model.specs.Bound.{
   leastLength,
   bound,
 }
-use Rattle.model.specs.Forcing.{at, tab, test, lowest, lacks, lacking, made, run, force}
+use Rattle.base.specs.Rows.{at, listFrom}
+use Rattle.model.specs.Forcing.{test, lowest, lacks, lacking, made, run, force}
 use Rattle.schedule.specs.Schedule.{done, busy, lowerBy, lower, Follows}
 use Rattle.schedule.specs.Promise.{Takes, Promise}
 use Rattle.schedule.specs.OneByOne.{FollowsOneByOne, PromiseOneByOne}
@@ -57,11 +59,11 @@ case-b-legal = record {
 -- Both tasks given as preemptive: forced, accepted, and kept.
 forced : force caseB (1 ∷ 1 ∷ []) ≡ record { flags = 0 ∷ 0 ∷ []; bounds = 12 ∷ 17 ∷ []; passes = 3 }
 unfolding bound leastLength satisfies B blockOf shareOf cap from block share E W workIn
-    sumTo topTo least test tab lacks lacking made run force
+    sumTo topTo least test listFrom lacks lacking made run force
 forced = refl
 
 none-lacks : lowest caseB (12 ∷ 17 ∷ []) ≡ 0
-unfolding lowest least
+unfolding lowest firstFrom
 none-lacks = refl
 
 pub case-b-kept : Promise caseB (at (0 ∷ 0 ∷ [])) (at (12 ∷ 17 ∷ []))

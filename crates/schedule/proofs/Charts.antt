@@ -12,9 +12,10 @@ use mathlib.Core.Logic.{_⊎_, inl, inr, ⊎-elim}
 use lib.Dec.{leb, ltb, eqb}
 use lib.ListN.{getD, length}
 use borrow.Author.Tests.{leb-true, ltb-true, eqb-true, le-leb, lt-ltb, le-ltb, eq-eqb, ne-eqb}
-use Rattle.model.specs.Sums.{sumTo, pick}
+use Rattle.base.specs.Sums.{sumTo}
+use Rattle.base.specs.Choice.{pick}
 use Rattle.model.specs.Bound.{System}
-use Rattle.model.proofs.LeastLaws.{le-or-lt}
+use Rattle.base.proofs.OrderLaws.{le-or-lt}
 use Rattle.schedule.specs.Schedule.{Run, done, busy, Pending, Waits, lower, Basic, Follows}
 use Rattle.schedule.specs.OneByOne.{FollowsOneByOne}
 use Rattle.schedule.specs.Chart.{charted}

@@ -9,9 +9,9 @@ use mathlib.Core.Logic.{_⊎_, inl, inr, ⊎-elim}
 use mathlib.Core.Bool.{Bool, true, false}
 use lib.Dec.{eqb}
 use borrow.Author.Tests.{eqb-true, eqb-false}
-use Rattle.model.specs.Sums.{sumTo}
-use Rattle.model.proofs.SumLaws.{sum-mono, sum-add, sum-cap}
-use Rattle.model.proofs.LeastLaws.{le-or-lt}
+use Rattle.base.specs.Sums.{sumTo}
+use Rattle.base.proofs.SumLaws.{sum-mono, sum-add, sum-cap}
+use Rattle.base.proofs.OrderLaws.{le-or-lt}
 
 -- a number is 0, unless it is above 0
 pub zero-unless : (n : ℕ) → (0 < n → ⊥) → n ≡ 0

@@ -10,7 +10,7 @@ use mathlib.Core.Bool.{Bool, true, false}
 use mathlib.Core.Logic.{⊎-elim}
 use lib.Dec.{ltb}
 use borrow.Author.Tests.{leb-true, ne-eqb}
-use Rattle.model.specs.Sums.{sumTo}
+use Rattle.base.specs.Sums.{sumTo}
 use Rattle.model.specs.Bound.{
   Policy,
   EDF,
@@ -30,9 +30,9 @@ use Rattle.model.specs.Bound.{
   byFlag,
   bound,
 }
-use Rattle.model.proofs.SumLaws.{sum-mono, sum-add}
-use Rattle.model.proofs.LeastLaws.{least-says}
-use Rattle.model.proofs.TopLaws.{Choice, top-bounds}
+use Rattle.base.proofs.SumLaws.{sum-mono, sum-add}
+use Rattle.base.proofs.LeastLaws.{least-says}
+use Rattle.base.proofs.TopLaws.{Choice, top-bounds}
 use Rattle.model.proofs.BoundLaws.{bound-none, bound-non, bound-pre}
 use Rattle.schedule.proofs.Counts.{sum-zero}
 

@@ -9,7 +9,7 @@ use mathlib.Core.Bool.{Bool, true, false}
 use mathlib.Core.Logic.{⊎-elim}
 use lib.Dec.{ltb, leb}
 use borrow.Author.Tests.{ltb-true, ltb-false, leb-false, not-true}
-use Rattle.model.specs.Sums.{sumTo}
+use Rattle.base.specs.Sums.{sumTo}
 use Rattle.model.specs.Bound.{Policy, EDF, FP, System, Legal}
 use Rattle.schedule.specs.Schedule.{Run, done, busy, Pending, lower, lowerBy, Basic, Follows}
 use Rattle.schedule.specs.Promise.{Asked, Levels, Schedules}

@@ -9,9 +9,9 @@ use native.Mathlib.Nat.{eq-or-lt-of-le, eq-zero-or-pos}
 use mathlib.Core.Path.{_≡_, refl}
 use mathlib.Core.Bool.{true}
 use mathlib.Core.Logic.{⊎-elim}
-use Rattle.model.specs.Sums.{sumTo}
+use Rattle.base.specs.Sums.{sumTo}
 use Rattle.model.specs.Bound.{System}
-use Rattle.model.proofs.LeastLaws.{le-or-lt}
+use Rattle.base.proofs.OrderLaws.{le-or-lt}
 use Rattle.schedule.specs.Schedule.{Run, done, Waits, lower, Basic}
 use Rattle.schedule.proofs.Counts.{zero-unless, sum-zero, sum-long}
 

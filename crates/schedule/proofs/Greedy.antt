@@ -8,9 +8,9 @@ use native.Mathlib.Omega.{arith}
 use native.Mathlib.Nat.{eq-zero-or-pos, le-trans, div-lt-iff-lt-mul, mod-lt}
 use mathlib.Core.Path.{_≡_, refl, ap}
 use mathlib.Core.Logic.{⊎-elim}
-use Rattle.model.specs.Sums.{sumTo}
+use Rattle.base.specs.Sums.{sumTo}
 use Rattle.model.specs.Bound.{Policy, EDF, FP, System, Legal}
-use Rattle.model.proofs.SumLaws.{sum-mono, sum-part}
+use Rattle.base.proofs.SumLaws.{sum-mono, sum-part}
 use Rattle.schedule.specs.Promise.{Asked}
 use Rattle.schedule.proofs.Counts.{zero-unless, sum-zero, sum-split}
 use Rattle.schedule.proofs.Ranks.{

@@ -8,7 +8,7 @@ use native.Mathlib.Nat.{le-trans}
 use mathlib.Core.Path.{_≡_, refl, ap}
 use mathlib.Core.Logic.{_⊎_, ⊎-elim}
 use Rattle.model.specs.Bound.{System, leastLength, bound}
-use Rattle.model.proofs.LeastLaws.{le-or-lt}
+use Rattle.base.proofs.OrderLaws.{le-or-lt}
 use Rattle.schedule.specs.Schedule.{Run, done}
 use Rattle.schedule.specs.Promise.{Kept}
 use Rattle.schedule.proofs.Facts.{Base, done-long, no-more}

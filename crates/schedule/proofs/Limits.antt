@@ -7,7 +7,8 @@ use mathlib.Core.Path.{_≡_, refl, ap}
 use mathlib.Core.Bool.{false}
 use mathlib.Core.List.{[], _∷_}
 use lib.ListN.{getD}
-use Rattle.model.specs.Sums.{sumTo, topTo, least}
+use Rattle.base.specs.Sums.{sumTo, topTo}
+use Rattle.base.specs.Least.{least}
 use Rattle.model.specs.Bound.{
   Policy,
   EDF,

@@ -9,9 +9,9 @@ use native.Mathlib.Nat.{eq-zero-or-pos, le-trans}
 use mathlib.Core.Path.{_≡_, refl, ap}
 use mathlib.Core.Logic.{_⊎_, inl, inr, ⊎-elim}
 use lib.Dec.{ltb}
-use Rattle.model.specs.Sums.{sumTo}
+use Rattle.base.specs.Sums.{sumTo}
 use Rattle.model.specs.Bound.{System, W, E, shareOf, blockOf, B}
-use Rattle.model.proofs.LeastLaws.{le-or-lt}
+use Rattle.base.proofs.OrderLaws.{le-or-lt}
 use Rattle.schedule.specs.Schedule.{Run, done, lower}
 use Rattle.schedule.proofs.Counts.{zero-unless, eq-or}
 use Rattle.schedule.proofs.Facts.{Base, done-long, done-suc, numbered}

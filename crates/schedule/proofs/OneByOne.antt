@@ -10,10 +10,11 @@ use mathlib.Core.Path.{_≡_, sym, ap, _∙_}
 use mathlib.Core.Bool.{true}
 use mathlib.Core.Logic.{_⊎_, inl, inr, ⊎-elim}
 use borrow.Author.Tests.{ltb-true}
-use Rattle.model.specs.Sums.{sumTo, pick}
+use Rattle.base.specs.Sums.{sumTo}
+use Rattle.base.specs.Choice.{pick}
 use Rattle.model.specs.Bound.{Policy, EDF, FP, System, W, E, shareOf, B}
-use Rattle.model.proofs.SumLaws.{sum-part}
-use Rattle.model.proofs.LeastLaws.{le-or-lt}
+use Rattle.base.proofs.SumLaws.{sum-part}
+use Rattle.base.proofs.OrderLaws.{le-or-lt}
 use Rattle.model.proofs.TermLaws.{E-least}
 use Rattle.schedule.specs.Schedule.{Run, done, lower}
 use Rattle.schedule.specs.Promise.{Bounded, Slackless}
@@ -204,7 +205,7 @@ module _ {s : System} {fl : ℕ → ℕ} {x : Run} {k a r l : ℕ} (f : Base s f
             lower-covered (p .0) lt ne (w .0) (v .0) (v .1) (v .2))
             (some-place (λ t. x .runs i (p .0) (r + t)) l)
 
-    pub no-suspect-edf : ⊥
+    no-suspect-edf : ⊥
     no-suspect-edf = shares-cover covered-edf
 
 base : (s : System) (fl : ℕ → ℕ) (x : Run) → Fit s → FollowsOneByOne s fl x → Base s fl x

@@ -8,9 +8,10 @@ use native.Mathlib.Nat.{le-refl, le-trans, le-of-eq}
 use mathlib.Core.Path.{_≡_, refl, sym, ap, _∙_}
 use mathlib.Core.Bool.{Bool, true, false, not}
 use mathlib.Core.Logic.{_⊎_, inl, inr, ⊎-elim}
-use Rattle.model.specs.Sums.{sumTo, pick}
+use Rattle.base.specs.Sums.{sumTo}
+use Rattle.base.specs.Choice.{pick}
 use Rattle.model.specs.Bound.{System, bound}
-use Rattle.model.proofs.SumLaws.{sum-mono, sum-same}
+use Rattle.base.proofs.SumLaws.{sum-mono, sum-same}
 use Rattle.schedule.specs.Schedule.{Run, done, busy, Pending, Waits, lower, Basic, Follows}
 use Rattle.schedule.specs.Promise.{Kept}
 use Rattle.schedule.specs.Limits.{Upper, SoundPart}

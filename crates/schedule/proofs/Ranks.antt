@@ -9,9 +9,10 @@ use mathlib.Core.Path.{_≡_, refl, ap}
 use mathlib.Core.Logic.{_⊎_, inl, inr, ⊎-elim}
 use lib.Dec.{ltb}
 use borrow.Author.Tests.{lt-ltb, le-ltb}
-use Rattle.model.specs.Sums.{sumTo, pick}
-use Rattle.model.proofs.SumLaws.{sum-mono, sum-add, sum-part}
-use Rattle.model.proofs.LeastLaws.{le-or-lt}
+use Rattle.base.specs.Sums.{sumTo}
+use Rattle.base.specs.Choice.{pick}
+use Rattle.base.proofs.SumLaws.{sum-mono, sum-add, sum-part}
+use Rattle.base.proofs.OrderLaws.{le-or-lt}
 use Rattle.schedule.proofs.Counts.{sum-zero, sum-less, some-place, one-at-most}
 
 -- 1 where a < b

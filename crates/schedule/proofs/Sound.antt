@@ -5,19 +5,17 @@
 use Prim.Native.Nat.{ℕ, zero, suc, _+_, _-_, _≤_, _<_}
 use native.Mathlib.Omega.{arith}
 use mathlib.Core.Path.{_≡_, sym, ap, _∙_}
-use mathlib.Core.Logic.{inl, ⊎-elim}
-use mathlib.Core.List.{List}
-use lib.Dec.{eqb}
-use borrow.Author.Tests.{eqb-false}
+use mathlib.Core.Logic.{inl}
 use Rattle.model.specs.Bound.{System, Legal, bound}
 use Rattle.model.specs.Demands.{Passes}
-use Rattle.model.specs.Forcing.{at, lowest, force}
-use Rattle.model.proofs.LeastLaws.{least-says}
+use Rattle.base.specs.Rows.{at}
+use Rattle.model.specs.Forcing.{force}
 use Rattle.model.proofs.ForcingLaws.{run-bounds, test-at}
 use Rattle.model.proofs.BoundLaws.{bound-range}
+use Rattle.model.proofs.LowestLaws.{lowest-none}
 use Rattle.schedule.specs.Schedule.{Run, done, Follows}
 use Rattle.schedule.specs.Promise.{Bounded, Slackless, Kept, Sound, SoundPassing, SoundForced}
-use Rattle.schedule.proofs.Counts.{zero-unless, pos-unless}
+use Rattle.schedule.proofs.Counts.{zero-unless}
 use Rattle.schedule.proofs.Facts.{Fit, Base}
 use Rattle.schedule.proofs.Waiting.{waits}
 use Rattle.schedule.proofs.NonPreemptive.{no-suspect-non}
@@ -89,18 +87,6 @@ passing-bounded s fl ok none pass = record {
 pub sound-passing : SoundPassing
 sound-passing s fl ok none pass = sound s fl ok (passing-bounded s fl ok none pass)
 
--- Forcing: its bounds are those of its flags, and where it names no task every bound is above 0
-all-bound : (s : System) (bs : List ℕ) → lowest s bs ≡ 0 → (k : ℕ) → k < s .count → 0 < at bs k
-unfolding lowest
-all-bound s bs z k kn =
-    ⊎-elim (λ found. absurd (let y : ⊥ = omega (arith, found .low) in y))
-    (λ none.
-    pos-unless (at bs k)
-    (λ e.
-    eqb-false (at bs (suc k - 1)) 0 (none .1 (suc k) (omega arith) (omega arith))
-    (ap (at bs) (let y : suc k - 1 ≡ k = omega arith in y) ∙ e)))
-    (least-says (λ j. eqb (at bs (j - 1)) 0) (s .count) 1)
-
 -- another name for the number of quanta
 renamed : {s : System} {x : Run} {k a R R′ : ℕ} → R ≡ R′ → Kept s x k a R → Kept s x k a R′
 renamed {x = x} {k = k} {a = a} e h = record {
@@ -108,6 +94,7 @@ renamed {x = x} {k = k} {a = a} e h = record {
   deadline = h .deadline;
 }
 
+-- Forcing: its bounds are those of its flags, and where it names no task every bound is above 0
 pub sound-forced : SoundForced
 unfolding force
 sound-forced s fs ok none pass x f k a kn =
@@ -115,5 +102,5 @@ sound-forced s fs ok none pass x f k a kn =
     let e : (i : ℕ) → i < s .count → at (force s fs .bounds) i ≡ bound s fl i =
     λ i lt. ap (λ bs. at bs i) (run-bounds s (s .count) fs 0) ∙ test-at s (force s fs .flags) i lt in
     renamed (sym (e k kn))
-    (sound-passing s fl ok none (λ i lt. omega (arith, e i lt, all-bound s (force s fs .bounds) pass i lt))
+    (sound-passing s fl ok none (λ i lt. omega (arith, e i lt, lowest-none s (force s fs .bounds) pass i lt))
     x f k a kn)

@@ -9,9 +9,10 @@ use mathlib.Core.Path.{_≡_}
 use mathlib.Core.Bool.{Bool, true, false}
 use lib.Dec.{ltb}
 use borrow.Author.Tests.{lt-ltb}
-use Rattle.model.specs.Sums.{sumTo, pick}
+use Rattle.base.specs.Sums.{sumTo}
+use Rattle.base.specs.Choice.{pick}
 use Rattle.model.specs.Bound.{System, W, E}
-use Rattle.model.proofs.SumLaws.{sum-mono, sum-cap}
+use Rattle.base.proofs.SumLaws.{sum-mono, sum-cap}
 use Rattle.schedule.specs.Schedule.{Run, done, busy, Pending}
 use Rattle.schedule.proofs.Counts.{
   sum-zero,

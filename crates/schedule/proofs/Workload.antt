@@ -19,11 +19,11 @@ use native.Mathlib.Nat.{
 }
 use mathlib.Core.Path.{_≡_, ap, _∙_}
 use mathlib.Core.Logic.{_⊎_, inl, inr, ⊎-elim}
-use Rattle.model.specs.Sums.{sumTo}
+use Rattle.base.specs.Sums.{sumTo}
 use Rattle.model.specs.Bound.{workIn}
-use Rattle.model.proofs.SumLaws.{sum-mono}
+use Rattle.base.proofs.SumLaws.{sum-mono}
 use Rattle.model.proofs.TermLaws.{work-mono, div-mono}
-use Rattle.model.proofs.LeastLaws.{le-or-lt}
+use Rattle.base.proofs.OrderLaws.{le-or-lt}
 
 -- a window that is longer by T sees C more
 pub work-period : (t c z : ℕ) → 0 < t → workIn t c (z + t) ≡ c + workIn t c z

@@ -7,7 +7,7 @@ use mathlib.Core.Bool.{_&&_}
 use mathlib.Core.List.{List}
 use lib.Dec.{ltb, eqb}
 use lib.ListN.{getD, length}
-use Rattle.model.specs.Sums.{pick}
+use Rattle.base.specs.Choice.{pick}
 use Rattle.model.specs.Bound.{System}
 use Rattle.schedule.specs.Schedule.{Run}
 

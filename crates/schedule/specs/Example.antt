@@ -14,7 +14,7 @@ use Prim.Native.Nat.{ℕ, _*_}
 use mathlib.Core.List.{List, [], _∷_}
 use lib.Dec.{ltb, eqb}
 use lib.ListN.{getD}
-use Rattle.model.specs.Sums.{pick}
+use Rattle.base.specs.Choice.{pick}
 use Rattle.model.specs.Bound.{Policy, FP, System}
 use Rattle.schedule.specs.Schedule.{Run}
 use Rattle.schedule.specs.Chart.{charted}

@@ -17,7 +17,8 @@ use mathlib.Core.List.{List}
 use mathlib.Core.Bool.{false}
 use Rattle.model.specs.Bound.{System, Legal, bound}
 use Rattle.model.specs.Demands.{Passes}
-use Rattle.model.specs.Forcing.{at, lowest, force}
+use Rattle.base.specs.Rows.{at}
+use Rattle.model.specs.Forcing.{lowest, force}
 use Rattle.schedule.specs.Schedule.{Run, done, Follows}
 
 -- The job (k,a) has had all that it needs within R quanta from its release, and by its deadline.

@@ -1,3 +1,5 @@
+pub mod RangeLaws
 pub mod CheckLaws
-pub mod RowLaws
+pub mod TableLaws
+pub mod LoadLaws
 pub mod Unique

@@ -1,28 +1,16 @@
--- Any two results that a promise allows are equal. `Only` says it of a promise as a caller reads it; each
--- public function of this crate has its theorem, and other crates cite `only` for theirs.
+-- Any two results that the promise of a public function of this crate allows are equal.
 -- Assumes nothing.
-use Prim.Native.Nat.{ℕ}
-use mathlib.Core.Path.{_≡_, sym, _∙_}
-use mathlib.Core.List.{List}
-use borrow.Fn.Kinds.{PK, RK, Out, Dens, resT, endedOf}
-use contract.Lifetimes.{Lfts}
-use denote.Triple.Clauses.{AtExit}
+use Rattle.base.proofs.Unique.{only, Only}
 use Rattle.table.proofs.head_fault.Kinds as head-fault
 use Rattle.table.proofs.head_fault.Reads as head-fault-reads
 use Rattle.table.proofs.task_fault.Kinds as task-fault
 use Rattle.table.proofs.task_fault.Reads as task-fault-reads
 use Rattle.table.proofs.check_table.Kinds as check-table
 use Rattle.table.proofs.check_table.Reads as check-table-reads
-
--- the law behind each: what equals the same is equal
-pub only : {A : Type 0} {x r r′ : A} → r ≡ x → r′ ≡ x → r ≡ r′
-only p q = p ∙ sym q
-
--- at the same arguments, what the promise allows is one result
-abbrev pub Only : (n : ℕ) (ps : List (PK n)) (r : RK n) → Out n ps r → Type 0
-Only n ps r Post =
-    (κs : Lfts n) (a : Dens κs ps) (x y : resT r κs .Denot) (s s′ : AtExit (endedOf n ps r) κs)
-    → Post κs a x s → Post κs a y s′ → x ≡ y
+use Rattle.table.proofs.task_load.Kinds as task-load
+use Rattle.table.proofs.task_load.Reads as task-load-reads
+use Rattle.table.proofs.total_load.Kinds as total-load
+use Rattle.table.proofs.total_load.Reads as total-load-reads
 
 pub head-fault-only : Only 0 head-fault.ps head-fault.r head-fault-reads.Post
 head-fault-only κs a x y s s′ p q = only p q
@@ -32,3 +20,9 @@ task-fault-only κs a x y s s′ p q = only p q
 
 pub check-table-only : Only 0 check-table.ps check-table.r check-table-reads.Post
 check-table-only κs a x y s s′ p q = only p q
+
+pub task-load-only : Only 0 task-load.ps task-load.r task-load-reads.Post
+task-load-only κs a x y s s′ p q = only p q
+
+pub total-load-only : Only 0 total-load.ps total-load.r total-load-reads.Post
+total-load-only κs a x y s s′ p q = only p q

@@ -1,2 +1,4 @@
 pub mod Table
 pub mod Checks
+pub mod Faults
+pub mod Load

@@ -6,7 +6,6 @@
 --   T, C, D of a task    its fields period, cost, deadline
 --   flag 1, 0            preemptive, non-preemptive
 --   a legal table        LegalTable
---   an answer's 32       row xs: the numbers of xs, and zeros past its end
 --
 -- Assumes nothing.
 use Prim.Native.Nat.{ℕ, zero, suc, _≤_, _<_}
@@ -14,7 +13,7 @@ use mathlib.Core.List.{List}
 use lib.ListN.{getD}
 use lib.Dec.{ltb}
 use Rattle.model.specs.Bound.{Policy, EDF, FP, System}
-use Rattle.model.specs.Forcing.{at, tab}
+use Rattle.base.specs.Rows.{listOf}
 use Rattle.table.specs.declared.Task.{Task}
 use Rattle.table.specs.declared.Table.{Table}
 
@@ -42,9 +41,12 @@ systemOf t = record {
   higher = λ k i. ltb i k;
 }
 
--- the flags of the table as sent
+-- the flag of the task at a place, and the flags of the table as sent
+abbrev pub flagAt : Table → ℕ → ℕ
+flagAt t i = taskAt (t .tasks) i .flag
+
 unfoldable pub flagsOf : Table → List ℕ
-flagsOf t = tab (λ i. taskAt (t .tasks) i .flag) 0 (t .n)
+flagsOf t = listOf (flagAt t) (t .n)
 
 -- 1 ≤ C ≤ D ≤ T ≤ 1,000,000, and the flag 0 or 1
 pub record LegalTask (t : Task) : Type 0 where
@@ -61,7 +63,3 @@ pub record LegalTable (t : Table) : Type 0 where
   pub some-task : 1 ≤ t .n
   pub count : t .n ≤ 32
   pub each : (i : ℕ) → i < t .n → LegalTask (taskAt (t .tasks) i)
-
--- the 32 places of an answer: the numbers of xs, and zeros past its end
-unfoldable pub row : List ℕ → List ℕ
-row xs = tab (at xs) 0 32

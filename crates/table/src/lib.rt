@@ -1,7 +1,9 @@
-// Tasks and tables by value, and the checks 5 to 11 of document 01 in their order.
+// Tasks and tables by value, the checks 5 to 11 of document 01 in their order, and the loads.
 ghost use mathlib.Core.Path.{_≡_};
-ghost use Prim.Native.Nat.{_≤_};
-ghost use Rattle.table.specs.Checks.{headFault, taskFault, checkOf};
+ghost use Prim.Native.Nat.{_≤_, _<_};
+ghost use Rattle.table.specs.Table.{LegalTable};
+ghost use Rattle.table.specs.Checks.{outside, headFault, taskFault, checkOf};
+ghost use Rattle.table.specs.Load.{load, totalLoad};
 
 // A task as it is given: any numbers, so that a wrong one can be named.
 pub struct Task {
@@ -19,63 +21,68 @@ pub struct Table {
     pub tasks: [Task; 32],
 }
 
-// What the checks say of a table: fine, or the first fault with its place (the task's number, 0 for 5, 6, 7).
+// What stands in the places past the last task.
+pub const NO_TASK: Task = Task {
+    flag: 0,
+    period: 0,
+    cost: 0,
+    deadline: 0,
+};
+
+// A refusal: document 01's number, and its place.
+pub struct Refusal {
+    pub number: u32,
+    pub place: u32,
+}
+
+// What the checks, or a reading, say of a table: fine, or the first fault. For a table that is given by value
+// the place is the task's number, and 0 for 5, 6, 7.
 pub enum Checked {
     Fine,
-    Refused { number: u32, place: u32 },
+    Refused(Refusal),
+}
+
+// Whether x is none of lo .. hi.
+fn outside(lo: u32, hi: u32, x: u32) -> bool
+    ensures { λ r. ⌜ r ≡ outside lo hi x ⌝ }
+{
+    if x < lo { true } else { hi < x }
 }
 
 // The first of the faults 5, 6, 7, and 0 for none.
 pub fn head_fault(cores: u32, policy: u32, n: usize) -> u32
     ensures { λ r. ⌜ r ≡ headFault cores policy n ⌝ }
 {
-    if cores < 1 {
+    if outside(1, 16, cores) {
         return 5;
     }
-    if 16 < cores {
-        return 5;
-    }
-    if 1 < policy {
+    if outside(0, 1, policy) {
         return 6;
     }
     if n < 1 {
         return 7;
     }
-    if 32 < n {
-        return 7;
-    }
-    0
+    if 32 < n { 7 } else { 0 }
 }
 
 // The first of the faults 8, 9, 10, 11, and 0 for none.
 pub fn task_fault(t: Task) -> u32
     ensures { λ r. ⌜ r ≡ taskFault t ⌝ }
 {
-    let period = t.period;
-    let deadline = t.deadline;
-    let cost = t.cost;
-    if 1 < t.flag {
+    if outside(0, 1, t.flag) {
         return 8;
     }
-    if period < 1 {
+    if outside(1, 1000000, t.period) {
         return 9;
     }
-    if 1000000 < period {
-        return 9;
-    }
-    if deadline < 1 {
+    if outside(1, t.period, t.deadline) {
         return 10;
     }
-    if period < deadline {
-        return 10;
+    if outside(1, t.deadline, t.cost) {
+        11
+    } else {
+        0
     }
-    if cost < 1 {
-        return 11;
-    }
-    if deadline < cost {
-        return 11;
-    }
-    0
 }
 
 // The checks 5 to 11 of a whole table: its numbers first, then task by task.
@@ -85,10 +92,10 @@ pub fn check_table(t: Table) -> Checked
     let n = t.n;
     let head = head_fault(t.cores, t.policy, n);
     if head != 0 {
-        return Checked::Refused {
+        return Checked::Refused(Refusal {
             number: head,
             place: 0,
-        };
+        });
     }
     let mut i: usize = 0;
     let mut place: u32 = 0;
@@ -96,12 +103,36 @@ pub fn check_table(t: Table) -> Checked
         let fault = task_fault(t.tasks[i]);
         place += 1;
         if fault != 0 {
-            return Checked::Refused {
+            return Checked::Refused(Refusal {
                 number: fault,
                 place: place,
-            };
+            });
         }
         i += 1;
     }
     Checked::Fine
+}
+
+// The load of a task.
+pub fn task_load(cost: u32, period: u32) -> u32
+    requires { ⌜ (cost ≤ 1000000) × (0 < period) ⌝ }
+    ensures { λ r. ⌜ r ≡ load cost period ⌝ }
+{
+    1000 * cost / period
+}
+
+// The sum of the tasks' loads.
+pub fn total_load(t: Table) -> u32
+    requires { ⌜ LegalTable t ⌝ }
+    ensures { λ r. ⌜ r ≡ totalLoad t ⌝ }
+{
+    let n = t.n;
+    let mut total: u32 = 0;
+    let mut i: usize = 0;
+    while i < n {
+        let task = t.tasks[i];
+        total += task_load(task.cost, task.period);
+        i += 1;
+    }
+    total
 }

@@ -5,9 +5,6 @@ use borrow.Author.Needs.{needs}
 use Rattle.eskihrum.proofs.count_in.Statement.{statement}
 use Rattle.eskihrum.proofs.count_in.Tie as tie
 
-add-result : tie.Need-add-result
-add-result c = search needs
-
 returns : tie.Need-returns
 returns c = count-whole (c .before .args .numbers) (c .if1 .taken)
 
@@ -15,4 +12,6 @@ returns-2 : tie.Need-returns-2
 returns-2 c = count-part (c .before .args .numbers) (c .if1 .left)
 
 pub count-in-spec : {M : Type 1} → statement M
-count-in-spec = tie.close (tie.spec add-result returns returns-2)
+count-in-spec =
+    tie.close
+    (tie.spec (λ c. search needs) returns returns-2)

@@ -5,11 +5,10 @@ use borrow.Author.Needs.{needs}
 use Rattle.eskihrum.proofs.job_of.Statement.{statement}
 use Rattle.eskihrum.proofs.job_of.Tie as tie
 
-returns : tie.Need-returns
-returns c = search needs
-
 returns-2 : tie.Need-returns-2
 returns-2 c = job-force (c .before .args .job) (c .if1 .left)
 
 pub job-of-spec : {M : Type 1} → statement M
-job-of-spec = tie.close (tie.spec returns returns-2)
+job-of-spec =
+    tie.close
+    (tie.spec (λ c. search needs) returns-2)

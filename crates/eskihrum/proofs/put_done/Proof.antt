@@ -1,6 +1,6 @@
 -- `eskihrum::put_done` meets its contract. The loop's invariant: the records passed are written.
 -- Assumes nothing.
-use Prim.Native.Nat.{_≤_, _-_}
+use Prim.Native.Nat.{_-_}
 use native.Mathlib.Omega.{arith}
 use borrow.Author.Needs.{needs}
 use Rattle.eskihrum.proofs.FlatLaws.{Putting, putting-start, putting-length, putting-step, putting-end}
@@ -16,29 +16,14 @@ abbrev μ-loop : tie.MeasureT-loop
 loop-holds : tie.Need-loop-holds Inv-loop μ-loop
 loop-holds c = putting-start (c .before .args .t2) (c .before .args .out .now)
 
-mul-r : tie.Need-mul-r Inv-loop μ-loop
-mul-r c = search needs
-
-element-copy-out-r : tie.Need-element-copy-out-r Inv-loop μ-loop
-element-copy-out-r c = search needs
-
 put-record-requires : tie.Need-put-record-requires Inv-loop μ-loop
 put-record-requires c κs =
     (omega arith, omega (arith, putting-length _ _ _ _ (c .before .before .before .loop .inv)))
-
-add-i : tie.Need-add-i Inv-loop μ-loop
-add-i c = search needs
-
-loop-less : tie.Need-loop-less Inv-loop μ-loop
-loop-less c = search needs
 
 loop-again : tie.Need-loop-again Inv-loop μ-loop
 loop-again c =
     putting-step _ _ _ _ (c .before .before .before .before .before .before .loop .inv) _ (omega arith)
     (omega arith) (c .before .before .put-record .ensures)
-
-code-of-requires : tie.Need-code-of-requires Inv-loop μ-loop
-code-of-requires c κs = search needs
 
 same-length : tie.Need-same-length Inv-loop μ-loop
 same-length c = putting-length _ _ _ _ (c .before .before .loop .inv)
@@ -49,16 +34,5 @@ returns c = putting-end _ _ _ _ (c .before .before .loop .inv) _ (omega arith) (
 pub put-done-spec : {M : Type 1} → statement M
 put-done-spec =
     tie.close
-    (tie.spec
-    Inv-loop
-    μ-loop
-    loop-holds
-    mul-r
-    element-copy-out-r
-    put-record-requires
-    add-i
-    loop-less
-    loop-again
-    code-of-requires
-    same-length
-    returns)
+    (tie.spec Inv-loop μ-loop loop-holds (λ c. search needs) (λ c. search needs) put-record-requires
+    (λ c. search needs) (λ c. search needs) loop-again (λ c κs. search needs) same-length returns)

@@ -5,7 +5,7 @@ use mathlib.Core.Path.{sym, ap, _∙_}
 use Prim.Native.Nat.{ℕ, _%_}
 use borrow.Author.Tests.{not-true, not-false}
 use denote.Ref.{now}
-use Rattle.frames.specs.Faults.{Written, short, no-end, no-sum, no-kind}
+use Rattle.frames.specs.Faults.{WholeLine, short, no-end, no-sum, no-kind}
 use Rattle.frames.proofs.DigitLaws.{digits-right}
 use Rattle.frames.proofs.FrameLaws.{digits-fault, wrong-frame, right-frame}
 use borrow.Author.Needs.{needs}
@@ -13,39 +13,27 @@ use Rattle.frames.proofs.frame_fault.Statement.{statement}
 use Rattle.frames.proofs.frame_fault.Tie as tie
 
 -- where the byte after the digits is 0A, the line is written whole
-whole : (c : tie.Else3) → Written (now (c .before .before .before .before .before .before .args .s))
+whole : (c : tie.Else3) → WholeLine (now (c .before .before .before .before .before .before .args .s))
     (c .before .before .before .before .before .before .args .size)
 whole c = record {
   long = omega arith;
-  digits = digits-right _ _
+  each = digits-right _ _
       (sym (c .before .before .before .all-digits .ensures) ∙ not-false _ (c .before .before .if2 .left));
   end = c .if3 .left;
 }
 
-mul-due : tie.Need-mul-due
-mul-due c = search needs
-
 returns : tie.Need-returns
 returns c = sym (wrong-frame (short (omega arith)))
-
-all-digits-requires : tie.Need-all-digits-requires
-all-digits-requires c κs = search needs
 
 returns-2 : tie.Need-returns-2
 returns-2 c =
     sym (digits-fault _ _ _ (omega arith) (sym (c .before .all-digits .ensures) ∙ not-true _ (c .if2 .taken)))
 
-shared-slice-read-if3 : tie.Need-shared-slice-read-if3
-shared-slice-read-if3 c = search needs
-
 returns-3 : tie.Need-returns-3
 returns-3 c = sym (wrong-frame (no-end (omega arith) (c .if3 .taken)))
 
 frame-sum-requires : tie.Need-frame-sum-requires
-frame-sum-requires c κs = (omega arith, (omega arith, whole c .digits))
-
-byte-requires : tie.Need-byte-requires
-byte-requires c κs = search needs
+frame-sum-requires c κs = (omega arith, (omega arith, whole c .each))
 
 returns-4 : tie.Need-returns-4
 returns-4 c =
@@ -71,15 +59,5 @@ returns-6 c =
 pub frame-fault-spec : {M : Type 1} → statement M
 frame-fault-spec =
     tie.close
-    (tie.spec
-    mul-due
-    returns
-    all-digits-requires
-    returns-2
-    shared-slice-read-if3
-    returns-3
-    frame-sum-requires
-    byte-requires
-    returns-4
-    returns-5
-    returns-6)
+    (tie.spec (λ c. search needs) returns (λ c κs. search needs) returns-2 (λ c. search needs) returns-3
+    frame-sum-requires (λ c κs. search needs) returns-4 returns-5 returns-6)

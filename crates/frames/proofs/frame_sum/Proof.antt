@@ -2,11 +2,12 @@
 -- Assumes nothing.
 use Prim.Native.Nat.{_≤_, _-_}
 use native.Mathlib.Omega.{arith}
-use mathlib.Core.Path.{_≡_, refl, ap, _∙_}
+use mathlib.Core.Path.{_≡_}
 use denote.Ref.{now}
-use Rattle.model.specs.Sums.{sumTo}
+use borrow.Author.Needs.{needs}
+use Rattle.base.proofs.SumLaws.{sum-start, sum-step, sum-end}
 use Rattle.frames.specs.Frames.{frameSum}
-use Rattle.frames.proofs.DigitLaws.{sum-step, sum-fits}
+use Rattle.frames.proofs.DigitLaws.{sum-fits}
 use Rattle.frames.proofs.frame_sum.Statement.{statement}
 use Rattle.frames.proofs.frame_sum.Tie as tie
 
@@ -17,11 +18,7 @@ abbrev μ-loop : tie.MeasureT-loop
 μ-loop s n i₀ sum₀ i sum = n - i
 
 loop-holds : tie.Need-loop-holds Inv-loop μ-loop
-unfolding sumTo
-loop-holds c = (omega arith, refl)
-
-byte-requires : tie.Need-byte-requires Inv-loop μ-loop
-byte-requires c κs = omega arith
+loop-holds c = (omega arith, sum-start _)
 
 add-sum : tie.Need-add-sum Inv-loop μ-loop
 add-sum c =
@@ -31,25 +28,14 @@ add-sum c =
           (λ j l. c .before .before .before .before .pre .1 .1 j (omega arith)),
     )
 
-add-i : tie.Need-add-i Inv-loop μ-loop
-add-i c = omega arith
-
-loop-less : tie.Need-loop-less Inv-loop μ-loop
-loop-less c = omega arith
-
 loop-again : tie.Need-loop-again Inv-loop μ-loop
-loop-again c = (
-  omega arith,
-  cc (sum-step (now (c .before .before .before .before .args .s))
-      (c .before .before .loop .i)),
-)
+loop-again c = (omega arith, sum-step _ (c .before .before .loop .inv .1) (c .byte .ensures))
 
 returns : tie.Need-returns Inv-loop μ-loop
-returns c =
-    c .before .loop .inv .1
-    ∙ ap (frameSum _) (let e : c .before .loop .i ≡ c .before .before .before .args .n = omega arith in e)
+returns c = sum-end _ (c .before .loop .inv .1) (omega arith)
 
 pub frame-sum-spec : {M : Type 1} → statement M
 frame-sum-spec =
     tie.close
-    (tie.spec Inv-loop μ-loop loop-holds byte-requires add-sum add-i loop-less loop-again returns)
+    (tie.spec Inv-loop μ-loop loop-holds (λ c κs. search needs) add-sum (λ c. search needs)
+    (λ c. search needs) loop-again returns)

@@ -6,9 +6,6 @@ use borrow.Author.Needs.{needs}
 use Rattle.lines.proofs.task_fields.Statement.{statement}
 use Rattle.lines.proofs.task_fields.Tie as tie
 
-byte-requires : tie.Need-byte-requires
-byte-requires c κs = search needs
-
 word-requires : tie.Need-word-requires
 word-requires c κs = (omega arith, λ i l. c .before .before .pre .1 i (omega arith))
 
@@ -24,4 +21,5 @@ returns c = cc
 
 pub task-fields-spec : {M : Type 1} → statement M
 task-fields-spec =
-    tie.close (tie.spec byte-requires word-requires word-requires-2 word-requires-3 returns)
+    tie.close
+    (tie.spec (λ c κs. search needs) word-requires word-requires-2 word-requires-3 returns)

@@ -8,9 +8,6 @@ use Rattle.listing.proofs.ListedLaws.{accepted-length, accepted-put}
 use Rattle.listing.proofs.put_accepted.Statement.{statement}
 use Rattle.listing.proofs.put_accepted.Tie as tie
 
-cast-put-line-one : tie.Need-cast-put-line-one
-cast-put-line-one c = search needs
-
 put-line-one-requires : tie.Need-put-line-one-requires
 put-line-one-requires c κs =
     let s = c .before .before in
@@ -22,9 +19,6 @@ put-tasks-requires c κs =
     let long = accepted-length (s .args .t) (s .args .recs) (s .args .forced) (s .args .passes) in
     (s .pre .0, omega (arith, long))
 
-total-load-requires : tie.Need-total-load-requires
-total-load-requires c κs = search needs
-
 put-last-requires : tie.Need-put-last-requires
 put-last-requires c κs =
     let s₀ = c .before .before .before .before .before .before .before .before in
@@ -34,9 +28,6 @@ put-last-requires c κs =
       accepted-length (s .args .t) (s .args .recs) (s .args .forced) (s .args .passes),
       ap (λ x. length (lastLine x (s .args .forced) (s .args .passes))) (c .before .total-load .ensures),
     )
-
-same-length : tie.Need-same-length
-same-length c = search needs
 
 returns : tie.Need-returns
 returns c =
@@ -50,11 +41,5 @@ returns c =
 pub put-accepted-spec : {M : Type 1} → statement M
 put-accepted-spec =
     tie.close
-    (tie.spec
-    cast-put-line-one
-    put-line-one-requires
-    put-tasks-requires
-    total-load-requires
-    put-last-requires
-    same-length
-    returns)
+    (tie.spec (λ c. search needs) put-line-one-requires put-tasks-requires (λ c κs. search needs)
+    put-last-requires (λ c. search needs) returns)

@@ -3,8 +3,8 @@
 use Prim.Native.Nat.{_-_}
 use native.Mathlib.Omega.{arith}
 use borrow.Author.Needs.{needs}
-use Rattle.page.proofs.PageLaws.{put-length}
-use Rattle.listing.proofs.LoadLaws.{task-ranges}
+use Rattle.buffer.proofs.PutLaws.{put-length}
+use Rattle.table.proofs.LoadLaws.{task-ranges}
 use Rattle.listing.proofs.TaskLaws.{Writing, writing-start, writing-room, writing-step, writing-end}
 use Rattle.listing.proofs.put_tasks.Statement.{statement}
 use Rattle.listing.proofs.put_tasks.Tie as tie
@@ -43,12 +43,6 @@ put-task-requires c κs =
     let turn = c .before .before .before .before in
     writing-room (turn .before .loop .inv) (turn .loop-test .taken) (c .before .task-load .ensures)
 
-add-i : tie.Need-add-i Inv-loop μ-loop
-add-i c = search needs
-
-loop-less : tie.Need-loop-less Inv-loop μ-loop
-loop-less c = search needs
-
 loop-again : tie.Need-loop-again Inv-loop μ-loop
 loop-again c =
     let load = c .before .before .before .before in
@@ -65,19 +59,6 @@ returns c = writing-end (c .before .loop .inv) (omega arith)
 pub put-tasks-spec : {M : Type 1} → statement M
 put-tasks-spec =
     tie.close
-    (tie.spec
-    Inv-loop
-    μ-loop
-    loop-holds
-    mul-task
-    element-copy-out-task
-    mul-rec
-    array-copy-out-rec
-    add-number
-    task-load-requires
-    put-task-requires
-    add-i
-    loop-less
-    loop-again
-    same-length
-    returns)
+    (tie.spec Inv-loop μ-loop loop-holds mul-task element-copy-out-task mul-rec array-copy-out-rec
+    add-number task-load-requires put-task-requires (λ c. search needs) (λ c. search needs) loop-again
+    same-length returns)

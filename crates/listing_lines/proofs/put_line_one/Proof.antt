@@ -2,24 +2,15 @@
 -- Assumes nothing.
 use native.Mathlib.Omega.{arith}
 use borrow.Author.Needs.{needs}
-use Rattle.page.proofs.PageLaws.{put-then}
+use Rattle.buffer.proofs.PutLaws.{put-then}
 use Rattle.listing_lines.proofs.LineLaws.{line-one-parts, line-one-length}
 use Rattle.listing_lines.proofs.put_line_one.Statement.{statement}
 use Rattle.listing_lines.proofs.put_line_one.Tie as tie
-
-slice-aggregate-put-either : tie.Need-slice-aggregate-put-either
-slice-aggregate-put-either c = search needs
-
-slice-aggregate-put-either-2 : tie.Need-slice-aggregate-put-either-2
-slice-aggregate-put-either-2 c = search needs
 
 put-either-requires : tie.Need-put-either-requires
 put-either-requires c κs =
     let s = c .before .before .before .before in
     omega (arith, line-one-length (s .args .policy) (s .args .cores) (s .args .n))
-
-slice-aggregate-put-field : tie.Need-slice-aggregate-put-field
-slice-aggregate-put-field c = search needs
 
 put-field-requires : tie.Need-put-field-requires
 put-field-requires c κs =
@@ -27,17 +18,11 @@ put-field-requires c κs =
     let s = s₀ .before in
     omega (arith, line-one-length (s .args .policy) (s .args .cores) (s .args .n))
 
-slice-aggregate-put-field-2 : tie.Need-slice-aggregate-put-field-2
-slice-aggregate-put-field-2 c = search needs
-
 put-field-requires-2 : tie.Need-put-field-requires-2
 put-field-requires-2 c κs =
     let s₀ = c .before .before .before .before .before .before .before .before in
     let s = s₀ .before .before .before .before .before .before in
     omega (arith, line-one-length (s .args .policy) (s .args .cores) (s .args .n))
-
-slice-aggregate-put : tie.Need-slice-aggregate-put
-slice-aggregate-put c = search needs
 
 put-requires : tie.Need-put-requires
 put-requires c κs =
@@ -45,9 +30,6 @@ put-requires c κs =
     let s₁ = s₀ .before .before .before .before .before .before .before .before in
     let s = s₁ .before .before .before in
     omega (arith, line-one-length (s .args .policy) (s .args .cores) (s .args .n))
-
-same-length : tie.Need-same-length
-same-length c = search needs
 
 returns : tie.Need-returns
 returns c =
@@ -62,15 +44,6 @@ returns c =
 pub put-line-one-spec : {M : Type 1} → statement M
 put-line-one-spec =
     tie.close
-    (tie.spec
-    slice-aggregate-put-either
-    slice-aggregate-put-either-2
-    put-either-requires
-    slice-aggregate-put-field
-    put-field-requires
-    slice-aggregate-put-field-2
-    put-field-requires-2
-    slice-aggregate-put
-    put-requires
-    same-length
-    returns)
+    (tie.spec (λ c. search needs) (λ c. search needs) put-either-requires (λ c. search needs)
+    put-field-requires (λ c. search needs) put-field-requires-2 (λ c. search needs) put-requires
+    (λ c. search needs) returns)

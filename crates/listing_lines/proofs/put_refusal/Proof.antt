@@ -1,7 +1,7 @@
 -- `listing_lines::put_refusal` meets its contract: number and place, and for 14 the passes. Assumes nothing.
 use native.Mathlib.Omega.{arith}
 use borrow.Author.Needs.{needs}
-use Rattle.page.proofs.PageLaws.{put-then}
+use Rattle.buffer.proofs.PutLaws.{put-then}
 use Rattle.listing_lines.proofs.LineLaws.{
   refusal-parts,
   refusal-length,
@@ -12,24 +12,15 @@ use Rattle.listing_lines.proofs.LineLaws.{
 use Rattle.listing_lines.proofs.put_refusal.Statement.{statement}
 use Rattle.listing_lines.proofs.put_refusal.Tie as tie
 
-slice-aggregate-put-field : tie.Need-slice-aggregate-put-field
-slice-aggregate-put-field c = search needs
-
 put-field-requires : tie.Need-put-field-requires
 put-field-requires c κs =
     let s = c .before .before .before in
     omega (arith, refusal-least (s .args .number) (s .args .place) (s .args .passes))
 
-slice-aggregate-put-field-2 : tie.Need-slice-aggregate-put-field-2
-slice-aggregate-put-field-2 c = search needs
-
 put-field-requires-2 : tie.Need-put-field-requires-2
 put-field-requires-2 c κs =
     let s = c .before .before .before .before .before .before .before .before in
     omega (arith, refusal-least (s .args .number) (s .args .place) (s .args .passes))
-
-slice-aggregate-put-field-3 : tie.Need-slice-aggregate-put-field-3
-slice-aggregate-put-field-3 c = search needs
 
 put-field-requires-3 : tie.Need-put-field-requires-3
 put-field-requires-3 c κs =
@@ -38,9 +29,6 @@ put-field-requires-3 c κs =
     let here = c .before .before .if1 .taken in
     omega (arith, refusal-length-14 (s .args .number) (s .args .place) (s .args .passes) here)
 
-slice-aggregate-put : tie.Need-slice-aggregate-put
-slice-aggregate-put c = search needs
-
 put-requires : tie.Need-put-requires
 put-requires c κs =
     let s₀ = c .before .before .before .before .before .before .before .before in
@@ -48,9 +36,6 @@ put-requires c κs =
     let s = s₁ .before .before .before in
     let here = c .before .before .before .before .before .before .before .if1 .taken in
     omega (arith, refusal-length-14 (s .args .number) (s .args .place) (s .args .passes) here)
-
-same-length : tie.Need-same-length
-same-length c = search needs
 
 returns : tie.Need-returns
 returns c =
@@ -62,18 +47,12 @@ returns c =
     (put-then (c1 .put-field .ensures)
     (put-then (c2 .put-field2 .ensures) (put-then (c3 .put-field3 .ensures) (c4 .put .ensures))))
 
-slice-aggregate-put-2 : tie.Need-slice-aggregate-put-2
-slice-aggregate-put-2 c = search needs
-
 put-requires-2 : tie.Need-put-requires-2
 put-requires-2 c κs =
     let s₀ = c .before .before .before .before .before .before .before .before in
     let s = s₀ .before .before .before .before .before .before in
     let here = c .before .before .if1 .left in
     omega (arith, refusal-length (s .args .number) (s .args .place) (s .args .passes) here)
-
-same-length-2 : tie.Need-same-length-2
-same-length-2 c = search needs
 
 returns-2 : tie.Need-returns-2
 returns-2 c =
@@ -86,18 +65,6 @@ returns-2 c =
 pub put-refusal-spec : {M : Type 1} → statement M
 put-refusal-spec =
     tie.close
-    (tie.spec
-    slice-aggregate-put-field
-    put-field-requires
-    slice-aggregate-put-field-2
-    put-field-requires-2
-    slice-aggregate-put-field-3
-    put-field-requires-3
-    slice-aggregate-put
-    put-requires
-    same-length
-    returns
-    slice-aggregate-put-2
-    put-requires-2
-    same-length-2
-    returns-2)
+    (tie.spec (λ c. search needs) put-field-requires (λ c. search needs) put-field-requires-2
+    (λ c. search needs) put-field-requires-3 (λ c. search needs) put-requires (λ c. search needs) returns
+    (λ c. search needs) put-requires-2 (λ c. search needs) returns-2)

@@ -2,7 +2,7 @@
 -- Assumes nothing.
 use native.Mathlib.Omega.{arith}
 use borrow.Author.Needs.{needs}
-use Rattle.page.proofs.PageLaws.{put-then}
+use Rattle.buffer.proofs.PutLaws.{put-then}
 use Rattle.listing_lines.proofs.LineLaws.{task-parts, task-length}
 use Rattle.listing_lines.proofs.put_task.Statement.{statement}
 use Rattle.listing_lines.proofs.put_task.Tie as tie
@@ -12,25 +12,16 @@ put-task-start-requires c κs =
     let s = c .before .before in
     omega (arith, task-length (s .args .row))
 
-slice-aggregate-put-field : tie.Need-slice-aggregate-put-field
-slice-aggregate-put-field c = search needs
-
 put-field-requires : tie.Need-put-field-requires
 put-field-requires c κs =
     let s = c .before .before .before .before .before .before .before in
     omega (arith, task-length (s .args .row))
-
-slice-aggregate-put-field-2 : tie.Need-slice-aggregate-put-field-2
-slice-aggregate-put-field-2 c = search needs
 
 put-field-requires-2 : tie.Need-put-field-requires-2
 put-field-requires-2 c κs =
     let s₀ = c .before .before .before .before .before .before .before .before in
     let s = s₀ .before .before .before .before in
     omega (arith, task-length (s .args .row))
-
-slice-aggregate-put-field-3 : tie.Need-slice-aggregate-put-field-3
-slice-aggregate-put-field-3 c = search needs
 
 put-field-requires-3 : tie.Need-put-field-requires-3
 put-field-requires-3 c κs =
@@ -39,18 +30,12 @@ put-field-requires-3 c κs =
     let s = s₁ .before in
     omega (arith, task-length (s .args .row))
 
-slice-aggregate-put : tie.Need-slice-aggregate-put
-slice-aggregate-put c = search needs
-
 put-requires : tie.Need-put-requires
 put-requires c κs =
     let s₀ = c .before .before .before .before .before .before .before .before in
     let s₁ = s₀ .before .before .before .before .before .before .before .before in
     let s = s₁ .before .before .before .before .before .before in
     omega (arith, task-length (s .args .row))
-
-same-length : tie.Need-same-length
-same-length c = search needs
 
 returns : tie.Need-returns
 returns c =
@@ -67,15 +52,6 @@ returns c =
 pub put-task-spec : {M : Type 1} → statement M
 put-task-spec =
     tie.close
-    (tie.spec
-    put-task-start-requires
-    slice-aggregate-put-field
-    put-field-requires
-    slice-aggregate-put-field-2
-    put-field-requires-2
-    slice-aggregate-put-field-3
-    put-field-requires-3
-    slice-aggregate-put
-    put-requires
-    same-length
-    returns)
+    (tie.spec put-task-start-requires (λ c. search needs) put-field-requires (λ c. search needs)
+    put-field-requires-2 (λ c. search needs) put-field-requires-3 (λ c. search needs) put-requires
+    (λ c. search needs) returns)

@@ -1,24 +1,15 @@
 -- `listing_lines::put_task_start` meets its contract: its words, one after the other. Assumes nothing.
 use native.Mathlib.Omega.{arith}
 use borrow.Author.Needs.{needs}
-use Rattle.page.proofs.PageLaws.{put-then}
+use Rattle.buffer.proofs.PutLaws.{put-then}
 use Rattle.listing_lines.proofs.LineLaws.{start-parts, start-length}
 use Rattle.listing_lines.proofs.put_task_start.Statement.{statement}
 use Rattle.listing_lines.proofs.put_task_start.Tie as tie
-
-slice-aggregate-put-field : tie.Need-slice-aggregate-put-field
-slice-aggregate-put-field c = search needs
 
 put-field-requires : tie.Need-put-field-requires
 put-field-requires c κs =
     let s = c .before .before .before in
     omega (arith, start-length (s .args .number) (s .args .flag) (s .args .forced))
-
-slice-aggregate-put-either : tie.Need-slice-aggregate-put-either
-slice-aggregate-put-either c = search needs
-
-slice-aggregate-put-either-2 : tie.Need-slice-aggregate-put-either-2
-slice-aggregate-put-either-2 c = search needs
 
 put-either-requires : tie.Need-put-either-requires
 put-either-requires c κs =
@@ -26,20 +17,11 @@ put-either-requires c κs =
     let s = s₀ .before in
     omega (arith, start-length (s .args .number) (s .args .flag) (s .args .forced))
 
-slice-aggregate-put-either-3 : tie.Need-slice-aggregate-put-either-3
-slice-aggregate-put-either-3 c = search needs
-
-slice-aggregate-put-either-4 : tie.Need-slice-aggregate-put-either-4
-slice-aggregate-put-either-4 c = search needs
-
 put-either-requires-2 : tie.Need-put-either-requires-2
 put-either-requires-2 c κs =
     let s₀ = c .before .before .before .before .before .before .before .before in
     let s = s₀ .before .before .before .before .before .before .before in
     omega (arith, start-length (s .args .number) (s .args .flag) (s .args .forced))
-
-same-length : tie.Need-same-length
-same-length c = search needs
 
 returns : tie.Need-returns
 returns c =
@@ -52,14 +34,6 @@ returns c =
 pub put-task-start-spec : {M : Type 1} → statement M
 put-task-start-spec =
     tie.close
-    (tie.spec
-    slice-aggregate-put-field
-    put-field-requires
-    slice-aggregate-put-either
-    slice-aggregate-put-either-2
-    put-either-requires
-    slice-aggregate-put-either-3
-    slice-aggregate-put-either-4
-    put-either-requires-2
-    same-length
+    (tie.spec (λ c. search needs) put-field-requires (λ c. search needs) (λ c. search needs)
+    put-either-requires (λ c. search needs) (λ c. search needs) put-either-requires-2 (λ c. search needs)
     returns)

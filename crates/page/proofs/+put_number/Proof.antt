@@ -4,7 +4,7 @@ use Prim.Native.Nat.{ℕ, _<_}
 use native.Mathlib.Omega.{arith}
 use mathlib.Core.Path.{_∙_}
 use borrow.Author.Needs.{needs}
-use Rattle.page.proofs.PageLaws.{put-length}
+use Rattle.buffer.proofs.PutLaws.{put-length}
 use Rattle.page.proofs.NumberLaws.{room-small, room-more, number-small, number-more}
 use borrow.Fn.Kinds.{In}
 use borrow.Fn.PlainCycle.{Measures, is, falls, and}

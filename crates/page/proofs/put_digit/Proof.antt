@@ -1,27 +1,14 @@
 -- `page::put_digit` meets its contract: one byte is stored. Assumes nothing.
 use borrow.Author.Needs.{needs}
-use Rattle.page.proofs.PageLaws.{put-one}
+use Rattle.buffer.proofs.PutLaws.{put-one}
 use Rattle.page.proofs.put_digit.Statement.{statement}
 use Rattle.page.proofs.put_digit.Tie as tie
-
-add-out : tie.Need-add-out
-add-out c = search needs
-
-cast-out : tie.Need-cast-out
-cast-out c = search needs
-
-slice-write-out : tie.Need-slice-write-out
-slice-write-out c = search needs
-
-add-result : tie.Need-add-result
-add-result c = search needs
-
-same-length : tie.Need-same-length
-same-length c = search needs
 
 returns : tie.Need-returns
 returns c = put-one _ _ _ (c .pre .1)
 
 pub put-digit-spec : {M : Type 1} → statement M
 put-digit-spec =
-    tie.close (tie.spec add-out cast-out slice-write-out add-result same-length returns)
+    tie.close
+    (tie.spec (λ c. search needs) (λ c. search needs) (λ c. search needs) (λ c. search needs)
+    (λ c. search needs) returns)

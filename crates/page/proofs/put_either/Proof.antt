@@ -18,18 +18,12 @@ put-requires-2 c κs =
     let a = c .before .before .before .before .before .args in
     omega (arith, ap length (either-other (a .n) (now (a .zero)) (now (a .other)) (c .before .if1 .left)))
 
-same-length : tie.Need-same-length
-same-length c = search needs
-
 returns : tie.Need-returns
 returns c =
     let a = c .before .before .before .before .before .before .before .before .args in
     let test = c .before .before .before .before .if1 .taken in
     let e = either-zero (a .n) (now (a .zero)) (now (a .other)) test in
     rw e at (c .before .before .put .ensures)
-
-same-length-2 : tie.Need-same-length-2
-same-length-2 c = search needs
 
 returns-2 : tie.Need-returns-2
 returns-2 c =
@@ -40,4 +34,5 @@ returns-2 c =
 
 pub put-either-spec : {M : Type 1} → statement M
 put-either-spec =
-    tie.close (tie.spec put-requires put-requires-2 same-length returns same-length-2 returns-2)
+    tie.close
+    (tie.spec put-requires put-requires-2 (λ c. search needs) returns (λ c. search needs) returns-2)

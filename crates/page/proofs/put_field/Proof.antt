@@ -4,7 +4,7 @@ use lib.ListN.{length-append}
 use denote.Ref.{now}
 use borrow.Author.Needs.{needs}
 use Rattle.page.specs.Decimal.{decimal}
-use Rattle.page.proofs.PageLaws.{put-then, put-room}
+use Rattle.buffer.proofs.PutLaws.{put-then, put-room}
 use Rattle.page.proofs.put_field.Statement.{statement}
 use Rattle.page.proofs.put_field.Tie as tie
 
@@ -18,13 +18,12 @@ put-number-requires c κs =
     let s = c .before .before .before .before .before .before .before in
     put-room (c .before .before .before .put .ensures) (decimal (s .args .n)) (s .pre)
 
-same-length : tie.Need-same-length
-same-length c = search needs
-
 returns : tie.Need-returns
 returns c =
     let d = c .before .before in
     put-then (d .before .before .before .before .put .ensures) (d .put-number .ensures)
 
 pub put-field-spec : {M : Type 1} → statement M
-put-field-spec = tie.close (tie.spec put-requires put-number-requires same-length returns)
+put-field-spec =
+    tie.close
+    (tie.spec put-requires put-number-requires (λ c. search needs) returns)

@@ -1,12 +1,9 @@
 -- `table::check_table` meets its contract. The loop's invariant: the tasks passed have no fault.
 -- Assumes nothing.
-use Prim.Native.Nat.{ℕ, suc, _≤_, _<_, _-_}
+use Prim.Native.Nat.{_-_}
 use native.Mathlib.Omega.{arith}
-use mathlib.Core.Path.{_≡_, refl, sym, ap, _∙_}
-use borrow.Author.Count.{below-more}
+use mathlib.Core.Path.{sym, _∙_}
 use borrow.Author.Needs.{needs}
-use Rattle.table.specs.Table.{taskAt}
-use Rattle.table.specs.Checks.{taskFault}
 use Rattle.table.proofs.CheckLaws.{
   head-refused,
   Checking,
@@ -17,17 +14,12 @@ use Rattle.table.proofs.CheckLaws.{
 }
 use Rattle.table.proofs.check_table.Statement.{statement}
 use Rattle.table.proofs.check_table.Tie as tie
-use Rattle.table.proofs.check_table.Reads as reads
-use Rattle.table.proofs.check_table.Lts as lts
 
 abbrev Inv-loop : tie.InvT-loop
 Inv-loop t n head i₀ place₀ i place = Checking t i place
 
 abbrev μ-loop : tie.MeasureT-loop
 μ-loop t n head i₀ place₀ i place = n - i
-
-head-fault-requires : tie.Need-head-fault-requires Inv-loop μ-loop
-head-fault-requires c κs = search needs
 
 returns : tie.Need-returns Inv-loop μ-loop
 returns c =
@@ -44,46 +36,25 @@ mul-task-fault c = omega (arith, c .before .loop .inv .range)
 element-copy-out-task-fault : tie.Need-element-copy-out-task-fault Inv-loop μ-loop
 element-copy-out-task-fault c = omega (arith, c .before .loop .inv .range)
 
-task-fault-requires : tie.Need-task-fault-requires Inv-loop μ-loop
-task-fault-requires c κs = search needs
-
 add-place : tie.Need-add-place Inv-loop μ-loop
 add-place c = omega (arith, c .before .before .before .loop .inv)
 
 returns-2 : tie.Need-returns-2 Inv-loop μ-loop
 returns-2 c =
-    checking-fault _ _ _ _ (c .before .before .before .before .loop .inv) (omega arith)
+    checking-fault _ (c .before .before .before .before .loop .inv) _ (omega arith)
     (c .before .task-fault .ensures) (c .if2 .taken)
-
-add-i : tie.Need-add-i Inv-loop μ-loop
-add-i c = search needs
-
-loop-less : tie.Need-loop-less Inv-loop μ-loop
-loop-less c = search needs
 
 loop-again : tie.Need-loop-again Inv-loop μ-loop
 loop-again c =
-    checking-step _ _ _ (c .before .before .before .before .loop .inv) (omega arith)
+    checking-step _ (c .before .before .before .before .loop .inv) (omega arith)
     (sym (c .before .task-fault .ensures) ∙ c .if2 .left)
 
 returns-3 : tie.Need-returns-3 Inv-loop μ-loop
-returns-3 c = checking-end _ _ _ (c .before .loop .inv) (omega arith)
+returns-3 c = checking-end _ (c .before .loop .inv) (omega arith)
 
 pub check-table-spec : {M : Type 1} → statement M
 check-table-spec =
     tie.close
-    (tie.spec
-    Inv-loop
-    μ-loop
-    head-fault-requires
-    returns
-    loop-holds
-    mul-task-fault
-    element-copy-out-task-fault
-    task-fault-requires
-    add-place
-    returns-2
-    add-i
-    loop-less
-    loop-again
-    returns-3)
+    (tie.spec Inv-loop μ-loop (λ c κs. search needs) returns loop-holds mul-task-fault
+    element-copy-out-task-fault (λ c κs. search needs) add-place returns-2 (λ c. search needs)
+    (λ c. search needs) loop-again returns-3)

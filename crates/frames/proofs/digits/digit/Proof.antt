@@ -3,11 +3,13 @@
 use mathlib.Core.List.{List, [], _∷_}
 use mathlib.Core.Bool.{Bool}
 use Prim.Native.Nat.{ℕ}
-use lib.Dec.{eqb, eqb→eq}
+use lib.Dec.{eqb}
 use lib.ListN.{getD}
+use mathlib.Core.Path.{refl}
+use borrow.Author.Tests.{eqb-true}
 use borrow.Author.Needs.{needs}
 use Rattle.frames.specs.Digits.{digitOf}
-use Rattle.frames.proofs.TableLaws.{at}
+use Rattle.frames.proofs.BelowLaws.{all-below}
 use Rattle.frames.proofs.digits.digit.Statement.{statement}
 use Rattle.frames.proofs.digits.digit.Tie as tie
 
@@ -30,17 +32,16 @@ values =
     255 ∷ 255 ∷ 255 ∷ 255 ∷ 255 ∷ 255 ∷ 255 ∷ 255 ∷ 255 ∷ 255 ∷ 255 ∷ 255 ∷ 255 ∷ 255 ∷ 255 ∷ 255 ∷
     255 ∷ 255 ∷ 255 ∷ 255 ∷ 255 ∷ 255 ∷ 255 ∷ 255 ∷ 255 ∷ 255 ∷ 255 ∷ 255 ∷ 255 ∷ 255 ∷ 255 ∷ 255 ∷ []
 
-right : ℕ → ℕ → Bool
-right k x = eqb x (digitOf k)
-
-array-read-result : tie.Need-array-read-result
-array-read-result c = search needs
+right : ℕ → Bool
+right k = eqb (getD values k 0) (digitOf k)
 
 returns : tie.Need-returns
 unfolding values right digitOf
 returns c =
-    eqb→eq (getD values (c .args .b) 0) (digitOf (c .args .b))
-    (at right values tt (c .args .b) (search needs))
+    eqb-true (getD values (c .args .b) 0) (digitOf (c .args .b))
+    (all-below right 256 refl (c .args .b) (search needs))
 
 pub digit-spec : {M : Type 1} → statement M
-digit-spec = tie.close (tie.spec array-read-result returns)
+digit-spec =
+    tie.close
+    (tie.spec (λ c. search needs) returns)

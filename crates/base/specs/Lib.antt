@@ -1,0 +1,4 @@
+pub mod Choice
+pub mod Sums
+pub mod Least
+pub mod Rows

@@ -1,0 +1,1 @@
+// What a buffer holds after words were written into it, and the laws of that. There is no function here.

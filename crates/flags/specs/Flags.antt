@@ -1,0 +1,29 @@
+-- The flags of a table, and the failing tasks of a test, by place.
+--
+--   document 01                                     here
+--   the flag of task i + 1: 1 preemptive, else 0    flagIn f i
+--   a task without a bound                          flagIn f i is 0, where f holds the failing tasks
+--   n flags, or n bounds, held by place             held f n: 0 where f is 0, else 1, and 1 past the n-th
+--   a changed flag                                  changed given flag is 1
+--
+-- Assumes nothing.
+use Prim.Native.Nat.{ℕ, zero, suc}
+use lib.Dec.{eqb}
+use Rattle.base.specs.Choice.{pick}
+use Rattle.base.specs.Rows.{at, row}
+use Rattle.flags.specs.declared.Flags.{Flags}
+
+-- 0 for 0, and 1 for any other number
+unfoldable pub asFlag : ℕ → ℕ
+asFlag zero = 0
+asFlag (suc _) = 1
+
+unfoldable pub flagIn : Flags → ℕ → ℕ
+flagIn f i = asFlag (at (f .row) i)
+
+unfoldable pub held : (ℕ → ℕ) → ℕ → Flags
+held f n = record { row = row 1 (λ i. asFlag (f i)) n }
+
+-- 1 where the flag is not the given one
+unfoldable pub changed : ℕ → ℕ → ℕ
+changed given flag = pick (eqb given flag) 0 1

@@ -1,0 +1,2 @@
+pub mod RaisingLaws
+pub mod Unique

@@ -1,0 +1,4 @@
+pub mod Answers
+pub mod Done
+pub mod Calls
+pub mod Ways
