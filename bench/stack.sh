@@ -1,7 +1,7 @@
 #!/bin/sh
 # stack.sh: how many bytes of stack the archive and the printer take, on small and on the largest plans.
-# The archive by a painted stack (stack.c); the printer as a whole, with the start of its process, by valgrind's
-# massif.
+# The archive by a painted stack (stack.c); the printer as a whole, with the start of its process, by
+# valgrind's massif.
 set -eu
 cd -- "$(dirname -- "$0")/.."
 cc -O2 -Wall -Wextra -Werror -Iinclude bench/stack.c target/staticlib/libeskihrum.a -lpthread -o target/stack

@@ -1,13 +1,37 @@
 #!/bin/sh
-# archive.sh: the archive for C and Rust. Builds it, runs the C example and the wrapper's tests, which compare
-# the archive with the second program on some hundred thousand calls.
+# archive.sh: the archive for C and Rust. Builds it; compares its source with the header and the wrapper; runs
+# the C examples, and the wrapper, its documentation and the header against the second program, some hundred
+# thousand calls by each of five ways.
 set -eu
 cd -- "$(dirname -- "$0")/.."
 rt staticlib eskihrum >target/staticlib.log 2>&1 || { tail -n 20 target/staticlib.log; exit 1; }
-cc -O1 -Wall -Wextra -Werror -Iinclude examples/caller.c target/staticlib/libeskihrum.a -o target/caller
+python3 checks/border.py --archive
+checks/promises.sh
+
 same() { [ "$1" = "$2" ] || { printf 'archive.sh: wrote "%s", expected "%s"\n' "$1" "$2"; exit 1; }; }
-same "$(target/caller <examples/b.plan)" "accepted, 2 forced in 3 passes, bound of task 1: 12"
-same "$(target/caller 1 <examples/b.plan || true)" "refused 13 place 0"
-same "$(target/caller 2 <examples/d.plan || true)" "refused 14 place 1"
-cd rust
-cargo test --offline --quiet -- --nocapture
+# example NAME: examples/NAME.c, with every warning an error.
+example() {
+    cc -std=c11 -O1 -Wall -Wextra -pedantic -Werror -Iinclude "examples/$1.c" \
+        target/staticlib/libeskihrum.a -o "target/$1"
+}
+# told STATUS WORDS COMMAND..: what a command writes, and its status.
+told() {
+    want=$1 words=$2 status=0
+    shift 2
+    got=$("$@" 2>target/archive.err) || status=$?
+    same "$got" "$words"
+    same "status $status" "status $want"
+}
+example caller
+told 0 "accepted, 2 forced in 3 passes, bound of task 1: 12" target/caller <examples/b.plan
+told 2 "refused 13 place 0" target/caller 1 <examples/b.plan
+told 1 "refused 14 place 1" target/caller 2 <examples/d.plan
+grep -q "caller: Forcing has ended" target/archive.err || { echo "archive.sh: 14 without its words"; exit 1; }
+example tasks
+told 0 "as given: no
+task 1: N, bound 12
+task 2: N, bound 17" target/tasks
+
+export CARGO_TARGET_DIR="$PWD/target/cargo"
+(cd rust && cargo test --offline --quiet -- --nocapture)
+(cd rust/header && cargo test --offline --quiet -- --nocapture)

@@ -1,10 +1,10 @@
 #!/usr/bin/env python3
 """axioms.py: what each crate assumes.
 
-A library crate of this repository assumes nothing: it names no library of the kit whose contracts are assumed
-(crates.txt), and where its check was made in this checkout, the last line of that check has no axiom. A program
-assumes the contracts of the C functions that it calls. Prints a line for each crate, and exits with 1 where a
-library crate assumes something or a check that was made did not prove its crate.
+A library crate of this repository assumes nothing: it names no library of the kit whose contracts are
+assumed (crates.txt), and where its check was made in this checkout, the last line of that check has no axiom.
+A program assumes the contracts of the C functions that it calls. Prints a line for each crate, and exits with
+1 where a library crate assumes something or a check that was made did not prove its crate.
 """
 import pathlib
 import re
@@ -39,14 +39,17 @@ def main():
         axioms = re.findall(r"\b(?:axioms|foreign)=\S+", last)
         program = (ROOT / "crates" / name / "src" / "main.rt").is_file()
         functions = re.search(r"functions=(\d+)", last)
-        found = f"{functions.group(1)} functions, {' '.join(axioms) or 'axioms=0'}" if functions else "not checked here"
+        found = "not checked here"
+        if functions:
+            found = f"{functions.group(1)} functions, {' '.join(axioms) or 'axioms=0'}"
         print(f"{name}: {'program' if program else 'library'}, {found}")
         if last and not last.startswith("logic=proved"):
             wrong += 1
             print(f"{name}: not proved: {last}")
         if not program and (axioms or ASSUMED & set(below)):
             wrong += 1
-            print(f"{name}: a library crate assumes something: {' '.join(axioms) or 'it names a library of C'}")
+            what = " ".join(axioms) or "it names a library of C"
+            print(f"{name}: a library crate assumes something: {what}")
     if wrong:
         sys.exit(f"axioms: {wrong} crates to mend")
 

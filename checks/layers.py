@@ -2,9 +2,9 @@
 """layers.py: what a reader may rely on in every Rattle file of this repository.
 
 Crates import downward only: a crate's code, definitions and laws name no crate that crates.txt does not put
-below it, and definitions (specs/) name no law (proofs/). Every file opens with a comment, has at most 300 lines
-(110 characters each), no hole is left, and no import is idle. A public definition or law is used somewhere, or
-docs/CLAIMS.md names it.
+below it, and definitions (specs/) name no law (proofs/). Every file opens with a comment, has at most 300
+lines (110 characters each), no hole is left, and no import is idle. A public definition or law is used
+somewhere, or docs/CLAIMS.md names it.
 Prints what is wrong, a line each, and exits with 1; prints one line and exits with 0 where all is well.
 """
 import collections
@@ -101,7 +101,8 @@ def dead(files):
         plain = COMMENT.sub("", text)
         for indent, name in declared(text):
             # its declaration and the clauses that define it, which stand as far in as it does
-            own = rf"^{indent}(?:(?:unfoldable |abbrev )?pub (?:record |data |ruleset )?)?{re.escape(name)}(?=[\s:])"
+            start = r"(?:(?:unfoldable |abbrev )?pub (?:record |data |ruleset )?)?"
+            own = rf"^{indent}{start}{re.escape(name)}(?=[\s:])"
             if everywhere[name] <= len(re.findall(own, plain, re.M)) and name not in claimed:
                 yield path, name
 
@@ -120,7 +121,8 @@ def faults():
             lines = text.splitlines()
             for other in sorted(named(text, is_code) & set(names) - allowed):
                 yield f"{where}: names the crate {other}, which crates.txt does not put below {crate}"
-            if path.parent == base / "specs" and re.search(r"^use Rattle·\w+(·proofs)?\.proofs\.", text, re.M):
+            is_spec = path.parent == base / "specs"
+            if is_spec and re.search(r"^use Rattle·\w+(·proofs)?\.proofs\.", text, re.M):
                 yield f"{where}: a definition names a law: move what it needs into specs/"
             for name in idle(text, is_code):
                 yield f"{where}: imports {name} and does not use it"

@@ -1,56 +1,265 @@
 #!/bin/sh
-# plan.sh: the script `plan` on every plan of examples/ and corpus/, and its exit statuses, words and chart.
-# Prints the first difference and exits with 1; prints one line and exits with 0 where all is well.
+# plan.sh: the script `plan` on every plan of examples/ and corpus/, and all that its grammar says: every exit
+# status, every message, every way to name input and output. Prints the first difference and exits with 1;
+# prints one line and exits with 0 where all is well.
+# shellcheck disable=SC2016 # commands in single quotes are for the shell that is started
 set -u
 cd -- "$(dirname -- "$0")/.." || exit 1
-out=$(mktemp) || exit 1
-trap 'rm -f "$out" "$out.want"' EXIT
-count=0
+room=$(mktemp -d) || exit 1
+trap 'rm -rf "$room"' EXIT
+out=$room/out err=$room/err count=0
+b=examples/b.plan d=examples/d.plan nine=corpus/bad/09-period-zero.plan most=corpus/good/most-tasks.plan
+export b d nine most room plan words
 
-fail() { printf 'plan.sh: %s\n' "$*"; exit 1; }
+fail() {
+    printf 'plan.sh: %s\n' "$*"
+    printf 'standard output:\n%s\nstandard error:\n%s\n' "$(cat "$out")" "$(cat "$err")"
+    exit 1
+}
 
-# gives STATUS WHAT COMMAND..: the command's status; its output is left in $out.
+# gives STATUS COMMAND..: the command's status; what it wrote and said is left in $out and $err.
 gives() {
-    want=$1 what=$2
-    shift 2
-    "$@" >"$out" 2>/dev/null
+    want=$1
+    shift
+    "$@" >"$out" 2>"$err" </dev/null
     got=$?
-    [ "$got" -eq "$want" ] || fail "$what: status $got, expected $want"
-    count=$((count + 1))
+    [ "$got" -eq "$want" ] || fail "$*: status $got, expected $want"
+    did=$* count=$((count + 1))
 }
+# sh_gives STATUS SCRIPT: the same of a line for the shell.
+sh_gives() { gives "$1" sh -c "$2"; }
 
-status_of() {
-    case "$(head -n 1 "$1")" in
-        "plan "*) echo 0 ;;
-        "refused 14 "*) echo 1 ;;
-        *) echo 2 ;;
-    esac
+# What the last command wrote and said, whole; `holds FILE` compares with a file.
+wrote() { [ "$(cat "$out")" = "$1" ] || fail "$did: it should have written: $1"; }
+said() { [ "$(cat "$err")" = "$1" ] || fail "$did: it should have said: $1"; }
+holds() { cmp -s "$out" "$1" || fail "$did: it should have written what $1 holds"; }
+says_part() { grep -qF -e "$1" "$err" || fail "$did: it should have said: $1"; }
+
+told_14='plan: task 1: forcing has ended, and the task still has no bound [plan explain 14]'
+told_9='plan: line 3 (task 2): the period T is not 1 to 1,000,000 quanta [plan explain 9]'
+
+# ---- One file by name, by -, by a named pipe, in pieces: document 01's bytes and nothing else.
+gives 0 ./plan $b
+holds examples/b.listing
+said ''
+sh_gives 0 'cat $b | ./plan -'
+holds examples/b.listing
+sh_gives 0 'mkfifo "$room/pipe" && { cat $b >"$room/pipe" & ./plan "$room/pipe"; }'
+holds examples/b.listing
+sh_gives 0 '{ head -c 40 $b; sleep 0.2; tail -c +41 $b; } | ./plan'
+holds examples/b.listing
+
+# ---- Long inputs: the longest plan is accepted, and with one byte more it is not.
+[ "$(wc -c <$most)" -eq 1003 ] || fail "$most is not the longest plan"
+sh_gives 2 '{ cat "$most"; printf 0; } | ./plan'
+wrote 'refused 12 place 34'
+said 'plan: line 34 (after task 32, the last): bytes follow the last line [plan explain 12]'
+sh_gives 2 'head -c 3000000 /dev/zero | ./plan'
+wrote 'refused 2 place 1'
+sh_gives 2 '{ cat $b; head -c 3000000 /dev/zero; } | ./plan'
+wrote 'refused 12 place 4'
+sh_gives 2 'yes | ./plan'
+
+# ---- Places in words.
+gives 1 ./plan $d
+said "$told_14"
+gives 2 ./plan $nine
+said "$told_9"
+gives 2 ./plan corpus/bad/01-last-line-end-missing.plan
+says_part ', or the last line end is missing [plan explain 1]'
+gives 2 ./plan examples/l.plan
+says_part 'plan: line 1 (the head): fewer bytes are left'
+gives 2 ./plan corpus/bad/03-sum-off-by-one.plan
+says_part '; check byte E1 fits, E2 stands there [plan explain 3]'
+sh_gives 2 "sed 's/FB\$/FC/' \$b | ./plan"
+wrote 'refused 3 place 1'
+says_part 'plan: line 1 (the head): '
+says_part '; check byte FB fits, FC stands there [plan explain 3]'
+sh_gives 2 'printf "0100000000\n" | ./plan'
+says_part '; check byte FF fits, 00 stands there [plan explain 3]'
+sh_gives 2 'printf "01FF000001\n" | ./plan'
+says_part '; check byte 00 fits, 01 stands there [plan explain 3]'
+
+# ---- Two and more files: the name above what follows, and the largest status.
+gives 1 ./plan $b $d
+{ echo $b:; cat examples/b.listing; echo $d:; cat examples/d.listing; } >"$room/two"
+holds "$room/two"
+said "plan: $d${told_14#plan}"
+gives 2 ./plan $nine $d
+gives 3 ./plan $b examples/none.plan $nine
+{ echo $b:; cat examples/b.listing; echo $nine:; echo refused 9 place 3; } >"$room/two"
+holds "$room/two"
+says_part 'plan: examples/none.plan: no such file'
+says_part "plan: $nine${told_9#plan}"
+
+# ---- The grammar: the verb first, options anywhere after it, -- ends them, ./chart is a file.
+gives 0 ./plan $b -o "$room/a"
+wrote ''
+said ''
+cmp -s "$room/a" examples/b.listing || fail "-o after a file: not the listing"
+gives 0 ./plan chart $b -o "$room/c"
+gives 0 ./plan chart -o "$room/c" -- $b
+gives 0 ./plan -- $b
+holds examples/b.listing
+gives 0 ./plan -o - $b
+holds examples/b.listing
+sh_gives 0 'here=$PWD; cp $b "$room/chart"; cp $b "$room/-o"; cd "$room" && "$here/plan" ./chart'
+holds examples/b.listing
+sh_gives 0 'here=$PWD; cd "$room" && "$here/plan" -- -o'
+holds examples/b.listing
+sh_gives 0 'here=$PWD; cd "$room" && "$here/plan" -- chart'
+holds examples/b.listing
+gives 3 ./plan -- -o
+said 'plan: -o: no such file'
+gives 3 ./plan --nothing
+said "plan: unknown option '--nothing' [plan --help]"
+gives 3 ./plan $b -x
+wrote ''
+said "plan: unknown option '-x' [plan --help]"
+gives 3 ./plan -o
+said 'plan: -o takes the name of a file [plan --help]'
+gives 3 ./plan -o '' $b
+said 'plan: -o takes the name of a file [plan --help]'
+gives 3 ./plan -o "$room/a" -o "$room/b" $b
+said 'plan: -o was given twice [plan --help]'
+gives 3 ./plan chart $b $d
+said 'plan: chart takes [FILE], and 2 words were given [plan --help]'
+gives 3 ./plan -o "$room/new" chart $b
+says_part 'plan: chart: no such file (a verb has to be the first word)'
+[ ! -e "$room/new" ] || fail "a file that could not be read: -o's file was written"
+
+# ---- Files that cannot be read.
+gives 3 ./plan examples/none.plan
+wrote ''
+said 'plan: examples/none.plan: no such file'
+gives 3 ./plan ''
+said "plan: '': no such file"
+gives 3 ./plan examples
+said 'plan: examples: this is a folder'
+sh_gives 3 './plan <examples'
+wrote ''
+said 'plan: standard input could not be read (Is a directory)'
+sh_gives 3 './plan <&-'
+wrote ''
+said 'plan: standard input is closed'
+if [ "$(id -u)" -ne 0 ]; then
+    sh_gives 3 'cp $b "$room/shut"; chmod 0 "$room/shut"; ./plan "$room/shut"'
+    said "plan: $room/shut: this file may not be read"
+fi
+TMPDIR=$room/none gives 3 ./plan $b
+says_part "plan: no temporary folder can be made: has $room/none room?"
+
+# ---- Answers that cannot be written: 3 everywhere.
+for words in "$b" "$d" "$nine" "chart $b" "chart $nine" "explain 9" --help --version; do
+    sh_gives 3 './plan $words >/dev/full'
+    says_part 'plan: the answer could not be written (No space left on device)'
+    sh_gives 3 './plan $words >&-'
+    said 'plan: standard output is closed'
+done
+gives 3 ./plan -o "$room/none/a" $b
+said "plan: -o $room/none/a: its folder is not there, or nothing can be written to it"
+gives 3 ./plan -o "$room" $b
+said "plan: -o $room: this is no ordinary file, and is left alone"
+gives 3 ./plan -o "$room/pipe" $b
+said "plan: -o $room/pipe: this is no ordinary file, and is left alone"
+[ -p "$room/pipe" ] || fail "-o replaced a pipe"
+sh_gives 0 './plan --help | head -n 1 >/dev/null'
+said ''
+
+# ---- -o: whole or not at all, and a refusal's line to standard output.
+for words in "$d" "$nine" "$b $d" "chart $nine"; do
+    echo before >"$room/kept"
+    case $words in *"$d") status=1 ;; *) status=2 ;; esac
+    sh_gives "$status" './plan $words -o "$room/kept"'
+    grep -q '^refused ' "$out" || fail "$words -o: the refusal's line is not on standard output"
+    [ "$(cat "$room/kept")" = before ] || fail "$words -o: the file was touched"
+done
+sh_gives 0 'umask 027; ./plan $b -o "$room/mode"; stat -c %a "$room/mode"'
+wrote 640
+sh_gives 0 'ln -s a "$room/link"; echo >"$room/a"; ./plan $b -o "$room/link" && test -L "$room/link"'
+cmp -s "$room/a" examples/b.listing || fail "-o through a symbolic link: not the listing"
+[ -z "$(find "$room" -name '.plan.*')" ] || fail "-o left a draft behind"
+
+# ---- explain.
+gives 0 ./plan explain 9
+wrote "refusal 9: The period T is not 1 to 1,000,000 quanta. Whose fault: Whoever filled in the task, or a \
+period in another unit. What to do: Give T in quanta."
+cp "$out" "$room/nine"
+gives 0 ./plan --explain 9
+holds "$room/nine"
+explained() {
+    gives 0 ./plan explain "$1" "$2"
+    [ "$(tail -n 1 "$out")" = "place $2: $3" ] || fail "explain $1 $2: it should have ended: place $2: $3"
 }
-
-for plan in examples/*.plan corpus/good/*.plan corpus/bad/*.plan; do
-    listing="${plan%.plan}.listing"
-    gives "$(status_of "$listing")" "$plan" sh -c './plan < "$0"' "$plan"
-    cmp -s "$out" "$listing" || fail "$plan: the listing is not $listing"
+explained 9 3 'line 3 (task 2); or task 3 of a list that a program lends'
+explained 9 33 'line 33 (task 32)'
+explained 9 1 'task 1 of a list that a program lends'
+explained 1 1 'line 1 (the head)'
+explained 3 33 'line 33 (task 32)'
+explained 5 0 'the list that a program lends'
+explained 5 1 'line 1 (the head)'
+explained 12 34 'line 34 (after task 32, the last)'
+explained 13 0 'the list that a program lends'
+explained 14 32 'task 32'
+for number in '' No. --- 1e1 +9 -9 0 00 09 9.0 ' 9' 15 100 14x '9
+9'; do
+    gives 3 ./plan explain -- "$number"
+    wrote ''
+    said "plan: explain takes the number of a refusal, 1 to 14, and not '$number' [plan --help]"
+done
+gives 3 ./plan explain ---
+gives 3 ./plan --explain
+said 'plan: explain takes NUMBER [PLACE], and 0 words were given [plan --help]'
+gives 3 ./plan explain 1 2 3
+for pair in '1 0' '1 34' '5 2' '9 0' '9 34' '12 2' '12 35' '13 1' '14 0' '14 33' '14 03' '14 x' '14 100'; do
+    # shellcheck disable=SC2086 # two words
+    gives 3 ./plan explain $pair
+    said "plan: refusal ${pair% *} never has the place '${pair#* }' [plan --help]"
 done
 
-gives 1 "two files, one refused with 14" ./plan examples/b.plan examples/d.plan
-{ echo examples/b.plan:; cat examples/b.listing; echo examples/d.plan:; cat examples/d.listing; } >"$out.want"
-cmp -s "$out" "$out.want" || fail "two files: not each listing under its name"
-gives 3 "a file that is not there" ./plan examples/none.plan
-gives 3 "a folder as input" sh -c './plan < examples'
-[ ! -s "$out" ] || fail "a folder as input: a verdict was written"
-gives 3 "closed input" sh -c './plan <&-'
-[ ! -s "$out" ] || fail "closed input: a verdict was written"
-gives 3 "a full disk" sh -c './plan < examples/b.plan > /dev/full'
-gives 3 "an unknown word" ./plan --nothing
-gives 0 "--help" ./plan --help
-grep -q 'Exit status' "$out" || fail "--help: no word on the exit status"
-gives 3 "--explain 15" ./plan --explain 15
-gives 0 "--chart" ./plan --chart examples/b.plan
-python3 -c 'import sys, xml.dom.minidom as dom; dom.parse(sys.argv[1])' "$out" || fail "--chart: no SVG"
-[ "$(grep -c 'class="forced"' "$out")" -eq 2 ] || fail "--chart: two forced tasks are to be marked"
-gives 2 "--chart of a refused plan" ./plan --chart corpus/bad/09-period-zero.plan
-gives 2 "a million bytes" sh -c 'head -c 1000000 /dev/zero | ./plan'
-gives 2 "a plan and a million bytes" sh -c '{ cat examples/b.plan; head -c 1000000 /dev/zero; } | ./plan'
-[ "$(cat "$out")" = "refused 12 place 4" ] || fail "a plan and a million bytes: not 12"
+# ---- --help and --version.
+gives 0 ./plan --help
+grep -q '^Exit status: 0 ' "$out" || fail "--help: no word on the exit status"
+cp "$out" "$room/help"
+gives 0 ./plan chart -h
+holds "$room/help"
+gives 0 ./plan --version
+wrote "Eskihrum $(cat VERSION)
+toolchain $(cat TOOLCHAIN)
+printer $(sha256sum <target/bin/plan_printer | cut -d ' ' -f 1)"
+
+# ---- A terminal: it says that it waits.
+if command -v script >/dev/null 2>&1; then
+    gives 2 script -qec ./plan /dev/null
+    grep -q '^plan: waiting for a plan on the terminal' "$out" || fail "it does not say that it waits"
+fi
+
+# ---- Refusal 14's advice: on one core under FP, (5,2,4,P) (14,8,14,P) is refused, no longer deadline helps,
+# and a shorter one does.
+lines() {
+    for frame in "$@"; do
+        bytes=$(printf '%s' "$frame" | sed 's/../0x& + /g')
+        printf '%s%02X\n' "$frame" $(((256 - (${bytes}0) % 256) % 256))
+    done
+}
+two_tasks() {
+    lines 01010102 "02010000000500000002$(printf '%08X' "$1")" 02010000000E000000080000000E >"$room/p"
+}
+two_tasks 4
+gives 1 ./plan "$room/p"
+two_tasks 5
+gives 1 ./plan "$room/p"
+two_tasks 3
+gives 0 ./plan "$room/p"
+
+# ---- Every stored plan, by name and as standard input.
+for plan in examples/*.plan corpus/good/*.plan corpus/bad/*.plan; do
+    listing=${plan%.plan}.listing
+    case $(head -n 1 "$listing") in "plan "*) status=0 ;; "refused 14 "*) status=1 ;; *) status=2 ;; esac
+    gives "$status" ./plan "$plan"
+    holds "$listing"
+    [ "$status" -gt 0 ] || said ''
+    sh_gives "$status" './plan <"$plan"'
+    holds "$listing"
+done
 printf 'plan.sh: %s runs of plan are as they should be\n' "$count"

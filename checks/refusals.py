@@ -2,8 +2,8 @@
 """refusals.py: every refusal has a row in docs/REFUSALS.md, an example that gets it, an edit that shows it.
 
 The example is a plan whose listing beside it starts with the number, or, for 13, which no text alone can get,
-a program that calls the planner. The edit is a must-fail edit of a crate. `./plan --explain N` prints the
-row.
+a program that calls the planner. The edit is a must-fail edit of a crate. The last cell says what a place is,
+in a word that `plan` knows. `./plan explain N` prints the row.
 """
 import pathlib
 import re
@@ -12,6 +12,7 @@ import sys
 
 ROOT = pathlib.Path(__file__).resolve().parent.parent
 NUMBERS = range(1, 15)
+PLACES = {"line", "head", "task line", "end", "none", "task"}
 
 
 def rows():
@@ -27,7 +28,7 @@ def faults():
     table = rows()
     for number in NUMBERS:
         cells = table.get(number)
-        if cells is None or len(cells) != 6 or not all(cells):
+        if cells is None or len(cells) != 7 or not all(cells) or cells[6] not in PLACES:
             yield f"docs/REFUSALS.md: refusal {number} has no whole row"
             continue
         example, edit = (ROOT / cell.strip("`") for cell in cells[4:6])
@@ -39,10 +40,11 @@ def faults():
                 yield f"refusal {number}: {cells[4]} gets '{listing.strip()}'"
         if not edit.is_file() or edit.suffix != ".edit":
             yield f"refusal {number}: there is no {cells[5]}"
-        asked = [ROOT / "plan", "--explain", str(number)]
+        asked = [ROOT / "plan", "explain", str(number)]
         told = subprocess.run(asked, capture_output=True, text=True, check=False)
-        if told.returncode != 0 or cells[1] not in told.stdout:
-            yield f"refusal {number}: plan --explain does not print its row"
+        row = f"refusal {number}: {cells[1]} Whose fault: {cells[2]} What to do: {cells[3]}\n"
+        if told.returncode != 0 or told.stdout != row:
+            yield f"refusal {number}: plan explain does not print its row"
 
 
 def main():

@@ -1,12 +1,25 @@
-/* The planner for C: link target/staticlib/libeskihrum.a, which `rt staticlib eskihrum` writes.
+/* eskihrum.h: the planner for C and C++. Link libeskihrum.a, which `rt staticlib eskihrum` writes into
+ * target/staticlib. C11 or C++11, x86-64.
  *
- * Both functions answer every input, keep nothing between calls and touch no memory but what they are
- * lent. job is ESKIHRUM_TEST (0) or ESKIHRUM_FORCE (any other number).
+ *     eskihrum_task tasks[] = {{1, 12, 4, 12}, {1, 24, 9, 18}};
+ *     eskihrum_record records[2];
+ *     eskihrum_answer answer = eskihrum_force_tasks(1, ESKIHRUM_FP, tasks, 2, records, 2);
+ *     if (!answer.yes) puts(eskihrum_text(answer.number));
  *
- * records is lent as numbers, three to a record: flag (1 preemptive, 0 non-preemptive), forced mark, bound
- * or 0. A table of n tasks needs room for 3 * n numbers. A test writes the records and says yes or no;
- * forcing writes them only where it accepts. A refusal writes nothing, and numbers past the n-th record
- * always keep their values.
+ * Every call answers every input. What it answers is proved of the archive's functions; this header is not
+ * proved: checks/border.py compares it with their source, and rust/header runs it against a second program.
+ *
+ * What a call needs, and what it leaves alone:
+ * - It keeps nothing between calls: no global variable, no allocation, no lock. Any number of threads may
+ *   call at once, each with lists of its own.
+ * - Of the C library it needs memcpy and memset, and nothing else.
+ * - It touches no memory but the lists that it is lent and its stack, of which it takes less than 11 KB.
+ * - It always returns, but its time has no smaller limit than that. Most tables take less than a millisecond,
+ *   the slowest tables known seconds (docs/BENCHMARK.md): not for a loop with a deadline of its own.
+ * - It uses the SSE2 registers and the red zone below the stack pointer: not for interrupt handlers, nor for
+ *   kernel code, which is built without them.
+ * - Lists that are lent in one call do not overlap. A list of length 0 may be NULL. Tasks, records and
+ *   answers stand where a uint32_t may stand.
  */
 #ifndef ESKIHRUM_H
 #define ESKIHRUM_H
@@ -15,27 +28,207 @@
 #include <stdint.h>
 
 #ifdef __cplusplus
+#define ESKIHRUM_HOLDS(fact) static_assert(fact, #fact)
 extern "C" {
+#else
+#define ESKIHRUM_HOLDS(fact) _Static_assert(fact, #fact)
 #endif
 
+/* The project's version, and what this header knows of the archive. An archive serves it exactly if
+ * eskihrum_abi() is at least ESKIHRUM_ABI: calls and numbers are added, and never change their meaning. */
+#define ESKIHRUM_VERSION "0.2.0"
+#define ESKIHRUM_ABI 1
+
+/* A table has at most so many tasks; room for so many records is always enough. */
+#define ESKIHRUM_TASKS 32
+
+enum { ESKIHRUM_EDF = 0, ESKIHRUM_FP = 1 };
+enum { ESKIHRUM_NON_PREEMPTIVE = 0, ESKIHRUM_PREEMPTIVE = 1 };
+
+/* A task as it is given: any numbers, and a wrong one gets its refusal. Times are in quanta. */
+typedef struct eskihrum_task {
+    uint32_t flag;     /* ESKIHRUM_PREEMPTIVE or ESKIHRUM_NON_PREEMPTIVE */
+    uint32_t period;   /* T, 1 to 1,000,000 */
+    uint32_t cost;     /* C, 1 to D */
+    uint32_t deadline; /* D, 1 to T */
+} eskihrum_task;
+
+/* What the planner says of a task. */
+typedef struct eskihrum_record {
+    uint32_t flag;   /* the flag that was tested last */
+    uint32_t forced; /* 1 if forcing changed the flag */
+    uint32_t bound;  /* the bound, or 0 for none */
+} eskihrum_record;
+
+/* The answer to every call, now and later. A field is 0 where it has nothing to say. Fields are only ever
+ * added, first in place of reserved ones and then at the end: docs/C.md says which are kept for what. */
+typedef struct eskihrum_answer {
+    uint32_t number;       /* the refusal's number, 0 for none: eskihrum_text says what it means */
+    uint32_t place;        /* its place: a line for 1 to 12 of a plan, otherwise a task, or 0 for none */
+    uint32_t yes;          /* 1 if every task has a bound under the flags in the records; else 0 */
+    uint32_t forced;       /* how many tasks forcing made non-preemptive */
+    uint32_t passes;       /* how many tests of the whole table forcing made, under refusal 14 too */
+    uint32_t records;      /* how many records were written: one for each task, or 0 in a refusal */
+    uint32_t reserved[10]; /* 0 */
+} eskihrum_answer;
+
+/* Each field stands where the archive has its number. */
+#define ESKIHRUM_AT(type, field, place) ESKIHRUM_HOLDS(offsetof(type, field) == (place) * sizeof(uint32_t))
+ESKIHRUM_AT(eskihrum_task, flag, 0);
+ESKIHRUM_AT(eskihrum_task, period, 1);
+ESKIHRUM_AT(eskihrum_task, cost, 2);
+ESKIHRUM_AT(eskihrum_task, deadline, 3);
+ESKIHRUM_HOLDS(sizeof(eskihrum_task) == 4 * sizeof(uint32_t));
+ESKIHRUM_AT(eskihrum_record, flag, 0);
+ESKIHRUM_AT(eskihrum_record, forced, 1);
+ESKIHRUM_AT(eskihrum_record, bound, 2);
+ESKIHRUM_HOLDS(sizeof(eskihrum_record) == 3 * sizeof(uint32_t));
+ESKIHRUM_AT(eskihrum_answer, number, 0);
+ESKIHRUM_AT(eskihrum_answer, place, 1);
+ESKIHRUM_AT(eskihrum_answer, yes, 2);
+ESKIHRUM_AT(eskihrum_answer, forced, 3);
+ESKIHRUM_AT(eskihrum_answer, passes, 4);
+ESKIHRUM_AT(eskihrum_answer, records, 5);
+ESKIHRUM_HOLDS(sizeof(eskihrum_answer) == 16 * sizeof(uint32_t));
+
+/* ---- The archive's functions, on flat numbers. Those further down count tasks and records instead. ---- */
+
+/* What the archive knows: compare it with ESKIHRUM_ABI. */
+uint32_t eskihrum_abi(void);
+
+/* The test, and forcing, of the plan of text_len bytes at text. records has three numbers to a record, answer
+ * the numbers of an eskihrum_answer; both get as much as they have room for, and keep the rest. The result is
+ * the answer's yes. */
+uint32_t eskihrum_flat_test_plan(const uint8_t *text, size_t text_len, uint32_t *records, size_t records_len,
+                                 uint32_t *answer, size_t answer_len);
+uint32_t eskihrum_flat_force_plan(const uint8_t *text, size_t text_len, uint32_t *records, size_t records_len,
+                                  uint32_t *answer, size_t answer_len);
+
+/* The same for cores, policy and a table of numbers, four to a task: flag, T, C, D. Where the last task has
+ * fewer than four, those that are missing count as 0, and so it is refused. */
+uint32_t eskihrum_flat_test_tasks(uint32_t cores, uint32_t policy, const uint32_t *tasks, size_t tasks_len,
+                                  uint32_t *records, size_t records_len, uint32_t *answer, size_t answer_len);
+uint32_t eskihrum_flat_force_tasks(uint32_t cores, uint32_t policy, const uint32_t *tasks, size_t tasks_len,
+                                   uint32_t *records, size_t records_len, uint32_t *answer,
+                                   size_t answer_len);
+
+/* The two older calls: job is ESKIHRUM_TEST, or ESKIHRUM_FORCE and any other number. Their answer is one
+ * number, whose parts the macros give. They stay as they are. */
 enum { ESKIHRUM_TEST = 0, ESKIHRUM_FORCE = 1 };
-
-/* The answer to the plan of text_len bytes at text. */
-uint64_t eskihrum_plan(uint32_t job, const uint8_t *text, size_t text_len,
-                       uint32_t *records, size_t records_len);
-
-/* The answer to cores, policy (0 EDF, 1 FP) and a table of numbers, four to a task: flag, T, C, D. Where
- * the last task has fewer than four, those that are missing count as 0, and so it is refused. */
-uint64_t eskihrum_tasks(uint32_t job, uint32_t cores, uint32_t policy, const uint32_t *tasks, size_t tasks_len,
-                        uint32_t *records, size_t records_len);
-
-/* What an answer holds: 1 for a test's yes and for a forcing that accepts; the number of the refusal (0
- * for none) and its place; the number of forced tasks; the number of passes of a forcing. */
+uint64_t eskihrum_plan(uint32_t job, const uint8_t *text, size_t text_len, uint32_t *records,
+                       size_t records_len);
+uint64_t eskihrum_tasks(uint32_t job, uint32_t cores, uint32_t policy, const uint32_t *tasks,
+                        size_t tasks_len, uint32_t *records, size_t records_len);
 #define ESKIHRUM_YES(answer) ((uint32_t)((uint64_t)(answer) >> 32))
 #define ESKIHRUM_NUMBER(answer) ((uint32_t)((uint64_t)(answer) & 255))
 #define ESKIHRUM_PLACE(answer) ((uint32_t)((uint64_t)(answer) >> 8 & 255))
 #define ESKIHRUM_FORCED(answer) ((uint32_t)((uint64_t)(answer) >> 16 & 255))
 #define ESKIHRUM_PASSES(answer) ((uint32_t)((uint64_t)(answer) >> 24 & 255))
+
+/* ---- A function for each job. ---- */
+
+/* How many numbers n things of `size` numbers are. From `most` things on the answer is the same, so that a
+ * count which is far too large cannot wrap round to a small one. */
+static inline size_t eskihrum_numbers(size_t n, size_t most, size_t size) {
+    return (n < most ? n : most) * size;
+}
+
+/* The test of a plan: the `bytes` bytes at text. room is how many records there is room for at records. The
+ * first answer.records of them are written, for each task its flag as given and its bound; others keep their
+ * contents. A no is no refusal: the records without a bound say why. */
+static inline eskihrum_answer eskihrum_test_plan(const void *text, size_t bytes, eskihrum_record *records,
+                                                 size_t room) {
+    eskihrum_answer answer = {0, 0, 0, 0, 0, 0, {0}};
+    eskihrum_flat_test_plan((const uint8_t *)text, bytes, (uint32_t *)records,
+                            eskihrum_numbers(room, ESKIHRUM_TASKS, 3), (uint32_t *)&answer, 16);
+    return answer;
+}
+
+/* Forcing of a plan: makes preemptive tasks without a bound non-preemptive, and tests again. Where it
+ * accepts, the records have the flags at the end: these are to be installed. A refusal writes none. */
+static inline eskihrum_answer eskihrum_force_plan(const void *text, size_t bytes, eskihrum_record *records,
+                                                  size_t room) {
+    eskihrum_answer answer = {0, 0, 0, 0, 0, 0, {0}};
+    eskihrum_flat_force_plan((const uint8_t *)text, bytes, (uint32_t *)records,
+                             eskihrum_numbers(room, ESKIHRUM_TASKS, 3), (uint32_t *)&answer, 16);
+    return answer;
+}
+
+/* The test of n tasks on so many cores under ESKIHRUM_EDF or ESKIHRUM_FP, as that of a plan. */
+static inline eskihrum_answer eskihrum_test_tasks(uint32_t cores, uint32_t policy, const eskihrum_task *tasks,
+                                                  size_t n, eskihrum_record *records, size_t room) {
+    eskihrum_answer answer = {0, 0, 0, 0, 0, 0, {0}};
+    eskihrum_flat_test_tasks(cores, policy, (const uint32_t *)tasks,
+                             eskihrum_numbers(n, ESKIHRUM_TASKS + 1, 4), (uint32_t *)records,
+                             eskihrum_numbers(room, ESKIHRUM_TASKS, 3), (uint32_t *)&answer, 16);
+    return answer;
+}
+
+/* Forcing of n tasks, as that of a plan. */
+static inline eskihrum_answer eskihrum_force_tasks(uint32_t cores, uint32_t policy,
+                                                   const eskihrum_task *tasks, size_t n,
+                                                   eskihrum_record *records, size_t room) {
+    eskihrum_answer answer = {0, 0, 0, 0, 0, 0, {0}};
+    eskihrum_flat_force_tasks(cores, policy, (const uint32_t *)tasks,
+                              eskihrum_numbers(n, ESKIHRUM_TASKS + 1, 4), (uint32_t *)records,
+                              eskihrum_numbers(room, ESKIHRUM_TASKS, 3), (uint32_t *)&answer, 16);
+    return answer;
+}
+
+/* What a refusal's number means, in the words of docs/REFUSALS.md, and what to do about it. The tables are
+ * written by `python3 checks/border.py --write`. */
+static inline const char *eskihrum_text(uint32_t number) {
+    switch (number) {
+    case 0: return "Not refused.";
+    /* texts: begin */
+    case 1: return "Fewer bytes are left than the due line and its line end need, or the last line end is "
+                   "missing.";
+    case 2: return "A byte is no digit 0-9 or A-F where one is due, or the byte after the line's digits is "
+                   "not 0A.";
+    case 3: return "The bytes of the line, its check byte included, do not sum to 0 modulo 256.";
+    case 4: return "The line's first byte is not the kind that is due: 01 for the head, 02 for a task.";
+    case 5: return "The number of cores is not 1 to 16.";
+    case 6: return "The policy is neither 0 (EDF) nor 1 (FP).";
+    case 7: return "The number of tasks is not 1 to 32.";
+    case 8: return "The flag is neither 0 (non-preemptive) nor 1 (preemptive).";
+    case 9: return "The period T is not 1 to 1,000,000 quanta.";
+    case 10: return "The deadline D is not 1 to T.";
+    case 11: return "The execution time C is not 1 to D.";
+    case 12: return "Bytes follow the last line.";
+    case 13: return "The caller's list has fewer records than the table has tasks.";
+    case 14: return "Forcing has ended, and the task still has no bound. No choice of further "
+                    "non-preemptive tasks passes the test.";
+    /* texts: end */
+    default: return "There is no such refusal.";
+    }
+}
+
+static inline const char *eskihrum_advice(uint32_t number) {
+    switch (number) {
+    case 0: return "Nothing is to be done.";
+    /* advice: begin */
+    case 1: return "Send the whole file again; end the last line with one byte 0A; compare the head's count "
+                   "with the task lines.";
+    case 2: return "Write upper-case digits, two to a byte, and end each line with one byte 0A.";
+    case 3: return "Send the line again, or work its check byte out anew: plan says on standard error which "
+                   "one fits.";
+    case 4: return "Put the head first, and then only task lines.";
+    case 5: return "Give the number of cores of the chip.";
+    case 6: return "Give 0 or 1.";
+    case 7: return "Give 1 to 32 tasks; split a longer table by chip.";
+    case 8: return "Give 0 or 1.";
+    case 9: return "Give T in quanta.";
+    case 10: return "Give a D of at most T.";
+    case 11: return "Give a C of at least 1 and at most D.";
+    case 12: return "Send one plan in a file, and compare the head's count with the task lines.";
+    case 13: return "Lend a list of at least n records; 32 are always enough.";
+    case 14: return "Shorten an execution time, lengthen a period, take a task away or add a core: none of "
+                    "these turns a yes into a no. A deadline can go either way, so try it in both "
+                    "directions. The place is the lowest-numbered task without a bound after forcing.";
+    /* advice: end */
+    default: return "Compare the number with docs/REFUSALS.md.";
+    }
+}
 
 #ifdef __cplusplus
 }

@@ -1,10 +1,12 @@
 //! The compiled planner against the textbook iteration of Theorem 1 in plain Rust: the same plans, the same
-//! machine, one run. Both read each plan text and force it; their answers are compared before anything is timed.
+//! machine, one run. Both read each plan text and force it; their answers are compared before anything is
+//! timed.
 //!
 //!     cargo run --offline --release             all but the slowest plan
 //!     cargo run --offline --release -- all      that one too: some 20 seconds of the textbook iteration
 //!
-//! A workload is run in turns, planner and textbook one after the other, and the quickest turn of each counts.
+//! A workload is run in turns, planner and textbook one after the other, and the quickest turn of each
+//! counts.
 
 use std::path::{Path, PathBuf};
 use std::time::{Duration, Instant};

@@ -1,10 +1,68 @@
-//! A safe wrapper over the proved planner.
+//! A safe wrapper over the proved planner, without the standard library and without allocation.
 //!
-//! The planner is written and proved in Rattle and linked as an archive. Each function here states what the
-//! planner promises; the promise is proved of the archive's source, while this file, which hands slices over to
-//! it, is trusted and tested. No function panics, allocates or keeps anything between calls.
+//! A function for each job: the test says whether every task has a bound, forcing makes tasks non-preemptive
+//! until the test passes. Both take a plan text ([`test_plan`], [`force_plan`]) or a list of tasks
+//! ([`test_tasks`], [`force_tasks`]), and write a [`Record`] for each task into a list that the caller lends.
+//!
+//! ```
+//! use eskihrum::{force_tasks, test_tasks, Policy, Record, Task};
+//!
+//! let tasks = [Task::preemptive(12, 4, 12), Task::preemptive(24, 9, 18)];
+//! let mut room = [Record::default(); 2];
+//!
+//! assert!(!test_tasks(1, Policy::Fp, &tasks, &mut room)?.yes);
+//!
+//! let forced = force_tasks(1, Policy::Fp, &tasks, &mut room)?;
+//! assert_eq!((forced.count, forced.passes), (2, 3));
+//! assert_eq!(forced.records[0], Record { flag: 0, forced: 1, bound: 12 });
+//!
+//! let refusal = force_tasks(1, Policy::Edf, &tasks, &mut room).unwrap_err();
+//! assert_eq!((refusal.number, refusal.passes), (14, 3));
+//! println!("{refusal}\n{}", refusal.advice());
+//! # Ok::<(), eskihrum::Refusal>(())
+//! ```
+//!
+//! The planner is written and proved in Rattle and linked as an archive. Each function here says what the
+//! planner promises; the promise is proved of the archive's source, while this package, which hands the lists
+//! over to it, is trusted and tested. No function panics or keeps anything between calls. include/eskihrum.h
+//! says what a call takes of stack and time.
+//!
+//! The archive is looked for in `ESKIHRUM_LIB_DIR`, or else where `rt staticlib eskihrum` writes it, in
+//! target/staticlib at the root of the repository.
 
-/// A task as it is given: any numbers, and a wrong one is named by its refusal.
+#![no_std]
+#![warn(missing_docs)]
+
+use core::fmt;
+
+pub mod flat;
+mod refusal;
+mod texts;
+
+pub use refusal::{Place, Refusal};
+
+/// Room for so many records is always enough: a table has at most so many tasks.
+pub const TASKS: usize = 32;
+
+/// Which task a core runs first.
+#[derive(Clone, Copy, Debug, PartialEq, Eq)]
+pub enum Policy {
+    /// Earliest deadline first.
+    Edf = 0,
+    /// Fixed priority: an earlier place in the list is a higher priority.
+    Fp = 1,
+}
+
+impl fmt::Display for Policy {
+    fn fmt(&self, out: &mut fmt::Formatter<'_>) -> fmt::Result {
+        out.write_str(match self {
+            Policy::Edf => "EDF",
+            Policy::Fp => "FP",
+        })
+    }
+}
+
+/// A task as it is given, in quanta: any numbers, and a wrong one gets its refusal.
 #[derive(Clone, Copy, Debug, PartialEq, Eq)]
 #[repr(C)]
 pub struct Task {
@@ -16,6 +74,18 @@ pub struct Task {
     pub cost: u32,
     /// D, from 1 to T.
     pub deadline: u32,
+}
+
+impl Task {
+    /// A task that may be interrupted, by T, C and D.
+    pub const fn preemptive(period: u32, cost: u32, deadline: u32) -> Task {
+        Task { flag: 1, period, cost, deadline }
+    }
+
+    /// A task that runs to its end once it has started, by T, C and D.
+    pub const fn non_preemptive(period: u32, cost: u32, deadline: u32) -> Task {
+        Task { flag: 0, period, cost, deadline }
+    }
 }
 
 /// What the planner says of a task.
@@ -30,148 +100,93 @@ pub struct Record {
     pub bound: u32,
 }
 
-/// What is asked for.
+/// What a test answers.
 #[derive(Clone, Copy, Debug, PartialEq, Eq)]
-pub enum Job {
-    Test,
-    Force,
+pub struct Tested<'a> {
+    /// Whether every task has a bound. A no is no refusal: the records without a bound say why.
+    pub yes: bool,
+    /// For each task its flag as given, no forced mark, and its bound.
+    pub records: &'a [Record],
 }
 
-/// The answer to a job.
+/// What forcing answers where it accepts. The flags in the records are what is to be installed.
 #[derive(Clone, Copy, Debug, PartialEq, Eq)]
-pub enum Answer {
-    /// A test's answer: every task has a bound.
-    Yes,
-    /// A test's answer: some task has no bound. The records say which.
-    No,
-    /// Forcing accepts: so many tasks were made non-preemptive, in so many tests of the whole table.
-    Accepted { forced: u32, passes: u32 },
-    /// A numbered refusal of document 01. The passes are 0 except under 14.
-    Refused {
-        number: u32,
-        place: u32,
-        passes: u32,
-    },
+pub struct Forced<'a> {
+    /// How many tasks were made non-preemptive.
+    pub count: u32,
+    /// How many tests of the whole table were made, the last included.
+    pub passes: u32,
+    /// For each task its flag at the end, a mark if it was changed, and the bound of the last test.
+    pub records: &'a [Record],
 }
 
-extern "C" {
-    fn eskihrum_plan(
-        job: u32,
-        text: *const u8,
-        text_len: usize,
-        records: *mut u32,
-        records_len: usize,
-    ) -> u64;
-    fn eskihrum_tasks(
-        job: u32,
-        cores: u32,
-        policy: u32,
-        tasks: *const u32,
-        tasks_len: usize,
-        records: *mut u32,
-        records_len: usize,
-    ) -> u64;
-}
-
-/// The answer to a plan text, as reading, checks and tests of document 01 go.
+/// The test of a plan text.
 ///
-/// Every byte string is answered. Under `Yes`, `No` and `Accepted` the first n records are those of the n tasks in
-/// table order: for a test the flags as given, no forced mark and the bounds; for forcing the final flags, a mark
-/// for each changed task and the bounds of the last test. Every other record keeps its contents, and a refusal
-/// changes none. 13 is the refusal where `records` has fewer than n places.
-pub fn run_plan(text: &[u8], job: Job, records: &mut [Record]) -> Answer {
-    let (numbers, count) = flat(records);
-    // SAFETY: both slices are lent for the call alone; a Record is three u32 in order, so `count` numbers are there.
-    let code = unsafe { eskihrum_plan(number_of(job), text.as_ptr(), text.len(), numbers, count) };
-    answer_of(job, code)
+/// Every byte string is answered. The first records of `room` are those of the plan's tasks in table order,
+/// and the others keep their contents; a refusal changes none. 13 is the refusal where there are fewer than
+/// the plan has tasks.
+pub fn test_plan<'a>(text: &[u8], room: &'a mut [Record]) -> Result<Tested<'a>, Refusal> {
+    let mut answer = [0; flat::FIELDS];
+    flat::test_plan(text, flat::numbers_mut(room), &mut answer);
+    tested(answer, refusal::of_plan, room)
 }
 
-/// The answer to cores, policy (0 EDF, 1 FP) and a list of tasks, whose length is n.
-///
-/// As [`run_plan`], with place 0 for the refusals 5, 6, 7 and 13 and the task's number for 8 to 11.
-pub fn run_tasks(
+/// Forcing of a plan text, with its records as in [`test_plan`].
+pub fn force_plan<'a>(text: &[u8], room: &'a mut [Record]) -> Result<Forced<'a>, Refusal> {
+    let mut answer = [0; flat::FIELDS];
+    flat::force_plan(text, flat::numbers_mut(room), &mut answer);
+    forced(answer, refusal::of_plan, room)
+}
+
+/// The test of a list of tasks on 1 to 16 cores, with its records as in [`test_plan`].
+pub fn test_tasks<'a>(
     cores: u32,
-    policy: u32,
+    policy: Policy,
     tasks: &[Task],
-    job: Job,
-    records: &mut [Record],
-) -> Answer {
-    let (numbers, count) = flat(records);
-    // SAFETY: as above; a Task is four u32 in order.
-    let code = unsafe {
-        eskihrum_tasks(
-            number_of(job),
-            cores,
-            policy,
-            tasks.as_ptr().cast(),
-            tasks.len() * 4,
-            numbers,
-            count,
-        )
-    };
-    answer_of(job, code)
+    room: &'a mut [Record],
+) -> Result<Tested<'a>, Refusal> {
+    let mut answer = [0; flat::FIELDS];
+    let list = flat::numbers(tasks);
+    flat::test_tasks(cores, policy as u32, list, flat::numbers_mut(room), &mut answer);
+    tested(answer, refusal::of_tasks, room)
 }
 
-/// The records as the numbers that they are made of.
-fn flat(records: &mut [Record]) -> (*mut u32, usize) {
-    (records.as_mut_ptr().cast(), records.len() * 3)
+/// Forcing of a list of tasks on 1 to 16 cores, with its records as in [`test_plan`].
+pub fn force_tasks<'a>(
+    cores: u32,
+    policy: Policy,
+    tasks: &[Task],
+    room: &'a mut [Record],
+) -> Result<Forced<'a>, Refusal> {
+    let mut answer = [0; flat::FIELDS];
+    let list = flat::numbers(tasks);
+    flat::force_tasks(cores, policy as u32, list, flat::numbers_mut(room), &mut answer);
+    forced(answer, refusal::of_tasks, room)
 }
 
-fn number_of(job: Job) -> u32 {
-    match job {
-        Job::Test => 0,
-        Job::Force => 1,
+/// The answer's numbers, in the order of the archive.
+type Answer = [u32; flat::FIELDS];
+
+fn tested(answer: Answer, refusal: fn(&Answer) -> Refusal, room: &[Record]) -> Result<Tested<'_>, Refusal> {
+    unless_refused(&answer, refusal)?;
+    Ok(Tested { yes: answer[flat::YES] == 1, records: written(&answer, room) })
+}
+
+fn forced(answer: Answer, refusal: fn(&Answer) -> Refusal, room: &[Record]) -> Result<Forced<'_>, Refusal> {
+    unless_refused(&answer, refusal)?;
+    let (count, passes) = (answer[flat::FORCED], answer[flat::PASSES]);
+    Ok(Forced { count, passes, records: written(&answer, room) })
+}
+
+fn unless_refused(answer: &Answer, refusal: fn(&Answer) -> Refusal) -> Result<(), Refusal> {
+    if answer[flat::NUMBER] == 0 {
+        Ok(())
+    } else {
+        Err(refusal(answer))
     }
 }
 
-/// The parts of an answer: the refusal's number, its place, forced count and passes a byte each, then yes.
-fn answer_of(job: Job, code: u64) -> Answer {
-    let byte = |k: u32| (code >> (8 * k) & 255) as u32;
-    let yes = code >> 32 == 1;
-    match (byte(0), job) {
-        (0, Job::Test) if yes => Answer::Yes,
-        (0, Job::Test) => Answer::No,
-        (0, Job::Force) => Answer::Accepted {
-            forced: byte(2),
-            passes: byte(3),
-        },
-        (number, _) => Answer::Refused {
-            number,
-            place: byte(1),
-            passes: byte(3),
-        },
-    }
-}
-
-/// The two exported functions on flat numbers, as C calls them.
-pub mod flat {
-    /// The coded answer to a plan text; `records` has three numbers for each record.
-    pub fn plan(job: u32, text: &[u8], records: &mut [u32]) -> u64 {
-        // SAFETY: both slices are lent for the call alone.
-        unsafe {
-            super::eskihrum_plan(
-                job,
-                text.as_ptr(),
-                text.len(),
-                records.as_mut_ptr(),
-                records.len(),
-            )
-        }
-    }
-
-    /// The coded answer to a flat table, four numbers for each task.
-    pub fn tasks(job: u32, cores: u32, policy: u32, tasks: &[u32], records: &mut [u32]) -> u64 {
-        // SAFETY: both slices are lent for the call alone.
-        unsafe {
-            super::eskihrum_tasks(
-                job,
-                cores,
-                policy,
-                tasks.as_ptr(),
-                tasks.len(),
-                records.as_mut_ptr(),
-                records.len(),
-            )
-        }
-    }
+/// The records that were written; there are never more than there was room for.
+fn written<'a>(answer: &Answer, room: &'a [Record]) -> &'a [Record] {
+    room.get(..answer[flat::RECORDS] as usize).unwrap_or(room)
 }

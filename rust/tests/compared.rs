@@ -1,123 +1,175 @@
-//! The archive against the second program: hand sums, every small table, tables at the edge, damaged texts.
+//! The archive against the second program, by every way in: the older calls, the flat calls with a lent
+//! answer, and the safe functions. Hand sums, every small table, tables at the edge, damaged texts, lists
+//! beside a border.
 
-use eskihrum::{run_plan, run_tasks, Answer, Job, Record, Task};
-use second::compare::{everything, short, Compared, Planner};
+use eskihrum::{flat, Forced, Place, Policy, Record, Refusal, Task, Tested};
+use second::compare::{everything, short, Compared, Planner, TEST};
 
-const LIBRARY: Planner = Planner {
-    text: eskihrum::flat::plan,
-    list: eskihrum::flat::tasks,
-};
-
-/// The number of calls that agree is printed; a table on which the two differ is kept in target/difference.txt.
-fn told(seed: u64, compared: Compared) {
+/// The number of calls that agree is printed; a table on which the two differ is kept in
+/// target/difference.txt.
+fn told(way: &str, seed: u64, compared: Compared) {
     match compared {
-        Ok(calls) => println!("{calls} calls agree, seed {seed}"),
+        Ok(calls) => println!("{way}: {calls} calls agree, seed {seed}"),
         Err(difference) => {
             let kept = concat!(env!("CARGO_MANIFEST_DIR"), "/../target/difference.txt");
             let _ = std::fs::write(kept, &difference);
-            panic!("seed {seed}: {difference}");
+            panic!("{way}, seed {seed}: {difference}");
         }
     }
 }
 
-/// A short run with a fixed seed, in the gate.
+/// The second program's one number for an answer: number, place, forced and passes a byte each, then yes.
+fn word(number: u32, place: u32, yes: bool, forced: u32, passes: u32) -> u64 {
+    u64::from(number)
+        + (u64::from(place) << 8)
+        + (u64::from(forced) << 16)
+        + (u64::from(passes) << 24)
+        + (u64::from(yes) << 32)
+}
+
+// ---------------------------------------------------------------- the flat calls
+
+const FLAT: Planner = Planner { text: flat_text, list: flat_list };
+
+/// An answer with a guard behind it. What is kept for later has to be 0, whatever stood there.
+fn lent(run: impl FnOnce(&mut [u32]) -> u32) -> (u64, u32) {
+    const GUARD: u32 = 0xC3C3_C3C3;
+    let mut answer = [GUARD; flat::FIELDS + 2];
+    let yes = run(&mut answer);
+    assert_eq!(answer[6..], [0, 0, 0, 0, 0, 0, 0, 0, 0, 0, GUARD, GUARD], "what no field is for");
+    assert_eq!(yes, answer[flat::YES], "the result is the answer's yes");
+    let told = word(
+        answer[flat::NUMBER],
+        answer[flat::PLACE],
+        answer[flat::YES] == 1,
+        answer[flat::FORCED],
+        answer[flat::PASSES],
+    );
+    (told, answer[flat::RECORDS])
+}
+
+/// As many records as the answer says were written, and no other; the second program knows how many.
+fn counted((told, written): (u64, u32), before: &[u32], after: &[u32]) -> u64 {
+    let changed = before.iter().zip(after).rposition(|(old, new)| old != new).map_or(0, |last| last / 3 + 1);
+    assert_eq!(written as usize, changed, "the number of records");
+    told
+}
+
+fn flat_text(job: u32, text: &[u8], records: &mut [u32]) -> u64 {
+    let before = records.to_vec();
+    let run = if job == TEST { flat::test_plan } else { flat::force_plan };
+    counted(lent(|answer| run(text, records, answer)), &before, records)
+}
+
+fn flat_list(job: u32, cores: u32, policy: u32, tasks: &[u32], records: &mut [u32]) -> u64 {
+    let before = records.to_vec();
+    let run = if job == TEST { flat::test_tasks } else { flat::force_tasks };
+    counted(lent(|answer| run(cores, policy, tasks, records, answer)), &before, records)
+}
+
+// ---------------------------------------------------------------- the safe functions
+
+const SAFE: Planner = Planner { text: safe_text, list: safe_list };
+
+/// Lends the numbers as records, with guards behind them that no call may touch.
+fn as_records(numbers: &mut [u32], run: impl FnOnce(&mut [Record]) -> u64) -> u64 {
+    const GUARD: Record = Record { flag: 0xC3C3_C3C3, forced: 0x3C3C_3C3C, bound: 0x5555_5555 };
+    let room = numbers.len() / 3;
+    let record = |three: &[u32]| Record { flag: three[0], forced: three[1], bound: three[2] };
+    let mut records: Vec<Record> = numbers.chunks(3).map(record).collect();
+    records.resize(room + 40, GUARD);
+    let word = run(&mut records[..room]);
+    assert!(records[room..].iter().all(|record| *record == GUARD), "written past the caller's list");
+    for (three, record) in numbers.chunks_mut(3).zip(&records) {
+        three.copy_from_slice(&[record.flag, record.forced, record.bound]);
+    }
+    word
+}
+
+fn refused(refusal: Refusal, by_line: bool) -> u64 {
+    let place = match refusal.place {
+        Place::Nowhere => 0,
+        Place::Line(line) => {
+            assert!(by_line && refusal.number <= 12, "{refusal} speaks of a line");
+            line
+        }
+        Place::Task(task) => {
+            assert!(!by_line || refusal.number == 14, "{refusal} speaks of a task");
+            task
+        }
+    };
+    word(refusal.number, place, false, 0, refusal.passes)
+}
+
+fn tested(answer: Result<Tested, Refusal>, by_line: bool, n: usize) -> u64 {
+    match answer {
+        Ok(tested) => {
+            assert_eq!(tested.records.len(), n, "a record for each task");
+            word(0, 0, tested.yes, 0, 0)
+        }
+        Err(refusal) => refused(refusal, by_line),
+    }
+}
+
+fn forced(answer: Result<Forced, Refusal>, by_line: bool, n: usize) -> u64 {
+    match answer {
+        Ok(forced) => {
+            assert_eq!(forced.records.len(), n, "a record for each task");
+            word(0, 0, true, forced.count, forced.passes)
+        }
+        Err(refusal) => refused(refusal, by_line),
+    }
+}
+
+fn safe_text(job: u32, text: &[u8], records: &mut [u32]) -> u64 {
+    let n = second::plan::read(text).map_or(0, |table| table.tasks.len());
+    as_records(records, |room| match job {
+        TEST => tested(eskihrum::test_plan(text, room), true, n),
+        _ => forced(eskihrum::force_plan(text, room), true, n),
+    })
+}
+
+/// A policy that is not there cannot be asked for: those calls go to the flat functions.
+fn safe_list(job: u32, cores: u32, policy: u32, tasks: &[u32], records: &mut [u32]) -> u64 {
+    let policy = match policy {
+        0 => Policy::Edf,
+        1 => Policy::Fp,
+        _ => return flat_list(job, cores, policy, tasks, records),
+    };
+    let task = |four: &[u32]| Task { flag: four[0], period: four[1], cost: four[2], deadline: four[3] };
+    let tasks: Vec<Task> = tasks.chunks(4).map(task).collect();
+    as_records(records, |room| match job {
+        TEST => tested(eskihrum::test_tasks(cores, policy, &tasks, room), false, tasks.len()),
+        _ => forced(eskihrum::force_tasks(cores, policy, &tasks, room), false, tasks.len()),
+    })
+}
+
+// ---------------------------------------------------------------- the runs
+
+const OLDER: Planner = Planner { text: flat::plan, list: flat::tasks };
+
+/// A short run of each way in, with fixed seeds, in the gate.
 #[test]
-fn agrees_with_the_second_program() {
-    told(303, short(&LIBRARY, 303));
+fn older_calls_agree() {
+    told("older calls", 303, short(&OLDER, 303));
+}
+
+#[test]
+fn flat_calls_agree() {
+    told("flat calls", 304, short(&FLAT, 304));
+}
+
+#[test]
+fn safe_functions_agree() {
+    told("safe functions", 305, short(&SAFE, 305));
 }
 
 /// The long run, with a seed from the environment: SEED=7 cargo test --release -- --ignored --nocapture
 #[test]
 #[ignore]
-fn agrees_at_length() {
-    let seed = std::env::var("SEED")
-        .ok()
-        .and_then(|word| word.parse().ok())
-        .unwrap_or(404);
-    told(seed, everything(&LIBRARY, seed));
-}
-
-/// Document 01's listing, through the safe functions.
-#[test]
-fn case_b_through_the_wrapper() {
-    let tasks = [
-        Task {
-            flag: 1,
-            period: 12,
-            cost: 4,
-            deadline: 12,
-        },
-        Task {
-            flag: 1,
-            period: 24,
-            cost: 9,
-            deadline: 18,
-        },
-    ];
-    let kept = Record {
-        flag: 9,
-        forced: 9,
-        bound: 9,
-    };
-    let mut records = [kept; 3];
-    let answer = run_tasks(1, 1, &tasks, Job::Force, &mut records);
-    assert_eq!(
-        answer,
-        Answer::Accepted {
-            forced: 2,
-            passes: 3
-        }
-    );
-    let first = Record {
-        flag: 0,
-        forced: 1,
-        bound: 12,
-    };
-    let second = Record {
-        flag: 0,
-        forced: 1,
-        bound: 17,
-    };
-    assert_eq!(records, [first, second, kept]);
-    assert_eq!(run_tasks(1, 1, &tasks, Job::Test, &mut records), Answer::No);
-    assert_eq!(
-        records[1],
-        Record {
-            flag: 1,
-            forced: 0,
-            bound: 0
-        }
-    );
-}
-
-/// A refusal changes nothing, whether the text or the room is at fault.
-#[test]
-fn refusals_change_nothing() {
-    let kept = Record {
-        flag: 7,
-        forced: 7,
-        bound: 7,
-    };
-    let mut records = [kept; 1];
-    let refused = |number, place| Answer::Refused {
-        number,
-        place,
-        passes: 0,
-    };
-    assert_eq!(run_plan(b"", Job::Force, &mut records), refused(1, 1));
-    let task = Task {
-        flag: 1,
-        period: 10,
-        cost: 4,
-        deadline: 10,
-    };
-    assert_eq!(
-        run_tasks(2, 0, &[task, task], Job::Test, &mut records),
-        refused(13, 0)
-    );
-    assert_eq!(
-        run_tasks(2, 0, &[Task { cost: 0, ..task }], Job::Test, &mut records),
-        refused(11, 1)
-    );
-    assert_eq!(records, [kept; 1]);
+fn agree_at_length() {
+    let seed = std::env::var("SEED").ok().and_then(|word| word.parse().ok()).unwrap_or(404);
+    for (way, planner) in [("older calls", OLDER), ("flat calls", FLAT), ("safe functions", SAFE)] {
+        told(way, seed, everything(&planner, seed));
+    }
 }

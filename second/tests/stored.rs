@@ -1,5 +1,5 @@
-//! The stored files of `examples`, `corpus` and the batch program are what this program writes, and the README
-//! tells the truth.
+//! The stored files of `examples`, `corpus` and the batch program are what this program writes, and the
+//! README tells the truth.
 
 use second::corpus::{bad, examples, good, Plan};
 use second::hand::case_d;

@@ -2,5 +2,7 @@ pub mod Demand1
 pub mod Demand2
 pub mod Demand3
 pub mod Meaning
+pub mod NeverHurts
+pub mod MayHurt
 pub mod Cases
 pub mod Wrong

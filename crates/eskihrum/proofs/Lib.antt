@@ -1,2 +1,3 @@
-pub mod FlatLaws
+pub mod CodedLaws
+pub mod ToldUnique
 pub mod Unique

@@ -4,7 +4,7 @@ use Prim.Native.Nat.{ℕ}
 use mathlib.Core.Path.{_≡_, sym, _∙_}
 use mathlib.Core.List.{List}
 use Rattle.planner.specs.declared.Done.{Done}
-use Rattle.eskihrum.specs.Flat.{Coded, PlanCoded, TasksCoded}
+use Rattle.eskihrum.specs.Coded.{Coded, PlanCoded, TasksCoded}
 
 coded-only : (d : Done) (old : List ℕ) {r r′ : ℕ} {new new′ : List ℕ} → Coded d old r new
     → Coded d old r′ new′

@@ -1,1 +1,2 @@
-pub mod Flat
+pub mod Coded
+pub mod Jobs

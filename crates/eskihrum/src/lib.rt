@@ -1,17 +1,14 @@
 // The planner for C and Rust: the two jobs on a plan text and on a flat table of numbers, with flat records.
+// Here are the two calls whose answer is one number; `jobs` has a function for each job, with a lent answer.
+mod jobs;
+
 ghost use mathlib.Core.Path.{_≡_};
-ghost use Prim.Native.Nat.{_+_, _*_, _≤_, _<_};
+ghost use Prim.Native.Nat.{_+_, _*_};
 ghost use lib.ListN.{length};
-ghost use Rattle.base.specs.Rows.{at};
-ghost use Rattle.buffer.specs.Put.{Put};
-ghost use Rattle.eskihrum.specs.Flat.{jobOf, yesBit, codeOf, recordNumbers, countIn, tasksIn, taskIn};
-ghost use Rattle.eskihrum.specs.Flat.{Coded, PlanCoded, TasksCoded};
+ghost use Rattle.eskihrum.specs.Coded.{jobOf, yesBit, codeOf, Flat, Coded, PlanCoded, TasksCoded};
 use planner::Answer;
 use planner::Done;
 use planner::Job;
-use planner::Record;
-use table::NO_TASK;
-use table::Task;
 
 // 0 asks for the test, every other number for forcing.
 fn job_of(job: u32) -> Job
@@ -41,74 +38,15 @@ fn code_of(answer: Answer) -> u64
     }
 }
 
-// The number at a place, 0 past the end.
-fn number_at(s: &[u32], i: usize) -> u32
-    ensures { λ r. ⌜ r ≡ at (now (s .entry)) i ⌝ }
+// The answer in its one number, and its records to the front of the caller's numbers.
+fn put_done(records: &mut [u32], d: Done) -> u64
+    requires { ⌜ Flat d (length (now records)) ⌝ }
+    ensures { λ r. ⌜ Coded d (now (records .entry)) r (now (records .exit)) ⌝ }
 {
-    if i < s.len() { s[i] } else { 0 }
-}
-
-// Four numbers to a task; what is missing of the last task counts as 0.
-fn count_in(numbers: usize) -> usize
-    ensures { λ r. ⌜ r ≡ countIn numbers ⌝ }
-{
-    if numbers % 4 == 0 {
-        numbers / 4
-    } else {
-        numbers / 4 + 1
-    }
-}
-
-// Task i of a flat table.
-fn task_in(s: &[u32], i: usize) -> Task
-    requires { ⌜ i < 32 ⌝ }
-    ensures { λ r. ⌜ r ≡ taskIn (now (s .entry)) i ⌝ }
-{
-    Task {
-        flag: number_at(s, 4 * i),
-        period: number_at(s, 4 * i + 1),
-        cost: number_at(s, 4 * i + 2),
-        deadline: number_at(s, 4 * i + 3),
-    }
-}
-
-// The first 32 tasks of a flat table, zeros past its end.
-fn tasks_in(s: &[u32]) -> [Task; 32]
-    ensures { λ r. ⌜ r ≡ tasksIn (now (s .entry)) ⌝ }
-{
-    let mut tasks = [NO_TASK; 32];
-    let mut i: usize = 0;
-    while i < 32 {
-        tasks[i] = task_in(s, i);
-        i += 1;
-    }
-    tasks
-}
-
-// The three numbers of a record, at the place of record i.
-fn put_record(out: &mut [u32], i: usize, r: Record)
-    requires { ⌜ (i < 32) × (3 * i + 3 ≤ length (now out)) ⌝ }
-    ensures { λ _. ⌜ Put (now (out .entry)) (3 * i) (recordNumbers r) (3 * i + 3) (now (out .exit)) ⌝ }
-{
-    out[3 * i] = r.flag;
-    out[3 * i + 1] = r.forced;
-    out[3 * i + 2] = r.bound;
-}
-
-// The records of an answer go to the front of the caller's numbers, and the rest of them stays.
-fn put_done(out: &mut [u32], d: Done) -> u64
-    requires { ⌜ (3 * d .count ≤ length (now out)) × (d .count ≤ 32) × (length (d .recs) ≡ 32) ⌝ }
-    ensures { λ r. ⌜ Coded d (now (out .entry)) r (now (out .exit)) ⌝ }
-{
-    let n = d.count;
-    let mut i: usize = 0;
-    while i < n {
-        let r = d.recs[i];
-        put_record(out, i, r);
-        i += 1;
-    }
     let answer = d.answer;
-    code_of(answer)
+    let code = code_of(answer);
+    flat::put_records(records, d);
+    code
 }
 
 // The answer to a plan text.
@@ -134,8 +72,8 @@ pub extern "C" fn eskihrum_tasks(
         (now (records .exit)) ⌝ }
 {
     let room = records.len() / 3;
-    let n = count_in(tasks.len());
-    let list = tasks_in(tasks);
+    let n = flat::count_in(tasks.len());
+    let list = flat::tasks_in(tasks);
     let d = planner::list_done(cores, policy, n, list, job_of(job), room);
     put_done(records, d)
 }

@@ -16,6 +16,7 @@ use Rattle.model.specs.Bound.{from, cap}
 use Rattle.model.specs.Bound.{shareOf, blockOf, B, bound}
 use Rattle.base.specs.Least.{NoWorse}
 use Rattle.base.proofs.SumLaws.{whole-mono}
+use Rattle.base.proofs.OrderLaws.{le-or-lt}
 use Rattle.model.proofs.TermLaws.{div-mono, cap-mono, pick-mono, pick-both, share-mono, both-order}
 use Rattle.model.proofs.BoundLaws.{bound-from-range}
 
@@ -59,11 +60,16 @@ module _ (t c c′ d l : ℕ) (less : c′ ≤ c) (fits : c ≤ d) (short : d �
       (eq-or-lt-of-le m))
       (eq-or-lt-of-le up)
 
--- The work in the window of l, cut off at l, never rises as C falls.
-pub work-time : (t c c′ d l : ℕ) → c′ ≤ c → c ≤ d → d ≤ t → 0 < t
+-- a larger C never lowers the work in one window
+work-cost : (t c c′ x : ℕ) → c′ ≤ c → workIn t c′ x ≤ workIn t c x
+unfolding workIn
+work-cost t c c′ x less = omega (arith, mul-le-mul-left (x / t) less)
+
+-- the law below for a C that fits into d
+work-fits : (t c c′ d l : ℕ) → c′ ≤ c → c ≤ d → d ≤ t → 0 < t
     → min (workIn t c′ (l + (d - c′))) l ≤ workIn t c (l + (d - c))
 unfolding workIn
-work-time t c c′ d l less fits short pos =
+work-fits t c c′ d l less fits short pos =
     let x : ℕ = l + (d - c) in
     let x′ : ℕ = l + (d - c′) in
     let i : x / t * t + x % t ≡ x = div-add-mod' x t in
@@ -74,6 +80,25 @@ work-time t c c′ d l less fits short pos =
     rw (r, r′)
     (jobs t c c′ d l less fits short (x / t) (x % t) (x′ / t) (x′ % t) (mod-lt x pos) up (omega arith)
     (omega arith))
+
+-- The work in the window of l, cut off at l, never rises as C falls. With C above d = D - S the window is l.
+pub work-time : (t c c′ d l : ℕ) → c′ ≤ c → d ≤ t → 0 < t
+    → min (workIn t c′ (l + (d - c′))) l ≤ workIn t c (l + (d - c))
+work-time t c c′ d l less short pos =
+    ⊎-elim
+    (λ (fits : c′ ≤ d).
+    let m : ℕ = min c d in
+    let same : d - m ≡ d - c = omega arith in
+    omega (
+      arith,
+      work-fits t m c′ d l (omega arith) (omega arith) short pos,
+      ap (λ y. workIn t m (l + y)) same,
+      work-cost t c m (l + (d - c)) (omega arith),
+    ))
+    (λ (out : d < c′).
+    let same : d - c′ ≡ d - c = omega arith in
+    omega (arith, ap (λ y. workIn t c′ (l + y)) same, work-cost t c c′ (l + (d - c)) less))
+    (le-or-lt c′ d)
 
 -- E never rises as T grows or C falls, over plain numbers
 e-order : (t t′ c c′ d g : ℕ) → 0 < t → t ≤ t′ → c′ ≤ c
@@ -150,7 +175,6 @@ changed s T′ C′ = record {
 }
 
 module _ (s : System) (T′ C′ fl : ℕ → ℕ) (k : ℕ) (legal : Legal s)
-    (fits : (i : ℕ) → i < s .count → s .C i ≤ s .D i - s .S i)
     (long : (i : ℕ) → i < s .count → s .T i ≤ T′ i) (less : (i : ℕ) → i < s .count → C′ i ≤ s .C i)
     (own : C′ k ≡ s .C k) (in′ : k < s .count)
   where
@@ -163,7 +187,7 @@ module _ (s : System) (T′ C′ fl : ℕ → ℕ) (k : ℕ) (legal : Legal s)
         omega (
           arith,
           work-period (s .T i) (T′ i) (C′ i) (l + (s .D i - s .S i - C′ i)) (period-pos i lt) (long i lt),
-          work-time (s .T i) (s .C i) (C′ i) (s .D i - s .S i) l (less i lt) (fits i lt)
+          work-time (s .T i) (s .C i) (C′ i) (s .D i - s .S i) l (less i lt)
               (omega (arith, legal .period i lt))
               (period-pos i lt),
         )

@@ -2,7 +2,7 @@
 -- Assumes nothing.
 use native.Mathlib.Omega.{arith}
 use borrow.Author.Needs.{needs}
-use Rattle.eskihrum.proofs.FlatLaws.{yes-small, given-code, refused-code}
+use Rattle.eskihrum.proofs.CodedLaws.{yes-small, given-code, refused-code}
 use Rattle.eskihrum.proofs.code_of.Statement.{statement}
 use Rattle.eskihrum.proofs.code_of.Tie as tie
 

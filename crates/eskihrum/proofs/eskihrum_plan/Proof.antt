@@ -1,7 +1,8 @@
 -- `eskihrum::eskihrum_plan` meets its contract: the answer by value, and its records as numbers.
 -- Assumes nothing.
 use Rattle.planner.proofs.CountLaws.{plan-small}
-use Rattle.eskihrum.proofs.FlatLaws.{flat-fits, plan-coded}
+use Rattle.flat.proofs.FlatLaws.{flat-fits}
+use Rattle.eskihrum.proofs.CodedLaws.{plan-coded}
 use borrow.Author.Needs.{needs}
 use Rattle.eskihrum.proofs.eskihrum_plan.Statement.{statement}
 use Rattle.eskihrum.proofs.eskihrum_plan.Tie as tie

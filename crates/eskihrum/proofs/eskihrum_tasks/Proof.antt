@@ -1,7 +1,8 @@
 -- `eskihrum::eskihrum_tasks` meets its contract: the answer by value, and its records as numbers.
 -- Assumes nothing.
 use Rattle.planner.proofs.CountLaws.{list-small}
-use Rattle.eskihrum.proofs.FlatLaws.{flat-fits, tasks-coded}
+use Rattle.flat.proofs.FlatLaws.{flat-fits}
+use Rattle.eskihrum.proofs.CodedLaws.{tasks-coded}
 use borrow.Author.Needs.{needs}
 use Rattle.eskihrum.proofs.eskihrum_tasks.Statement.{statement}
 use Rattle.eskihrum.proofs.eskihrum_tasks.Tie as tie

@@ -1,6 +1,6 @@
 -- `eskihrum::job_of` meets its contract, by cases on the number.
 -- Assumes nothing.
-use Rattle.eskihrum.proofs.FlatLaws.{job-force}
+use Rattle.eskihrum.proofs.CodedLaws.{job-force}
 use borrow.Author.Needs.{needs}
 use Rattle.eskihrum.proofs.job_of.Statement.{statement}
 use Rattle.eskihrum.proofs.job_of.Tie as tie

@@ -1,7 +1,7 @@
 -- `eskihrum::yes_bit` meets its contract, by the test.
 -- Assumes nothing.
 use mathlib.Core.Path.{refl}
-use Rattle.eskihrum.specs.Flat.{yesBit}
+use Rattle.eskihrum.specs.Coded.{yesBit}
 use Rattle.eskihrum.proofs.yes_bit.Statement.{statement}
 use Rattle.eskihrum.proofs.yes_bit.Tie as tie
 

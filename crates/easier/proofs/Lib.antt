@@ -1,0 +1,9 @@
+pub mod WaitLaws
+pub mod OwnLaws
+pub mod EasedLaws
+pub mod AcceptLaws
+pub mod NeverHurts
+pub mod ShorterLaws
+pub mod EdfLaws
+pub mod TableLaws
+pub mod Refuted

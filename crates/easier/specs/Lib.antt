@@ -1,0 +1,4 @@
+pub mod Eased
+pub mod NeverHurts
+pub mod TableWords
+pub mod MayHurt

@@ -1,0 +1,58 @@
+-- Two results which a promise of `jobs` allows are equal: the yes, and both of the caller's lists afterwards.
+-- The statements are over the promises as a caller reads them. Assumes nothing.
+use Prim.Native.Nat.{ℕ}
+use mathlib.Core.Path.{_≡_}
+use mathlib.Core.List.{List}
+use borrow.Fn.Kinds.{Dens, resT, endedOf}
+use contract.Lifetimes.{Lfts}
+use denote.Ref.{now}
+use denote.Triple.Clauses.{AtExit}
+use Rattle.base.proofs.Unique.{Only, only}
+use Rattle.planner.specs.declared.Done.{Done}
+use Rattle.eskihrum.specs.Jobs.{Told}
+use Rattle.eskihrum.proofs.jobs.eskihrum_abi.Kinds as abi
+use Rattle.eskihrum.proofs.jobs.eskihrum_abi.Reads as abi-reads
+use Rattle.eskihrum.proofs.jobs.eskihrum_flat_test_plan.Kinds as test-plan
+use Rattle.eskihrum.proofs.jobs.eskihrum_flat_test_plan.Reads as test-plan-reads
+use Rattle.eskihrum.proofs.jobs.eskihrum_flat_force_plan.Kinds as force-plan
+use Rattle.eskihrum.proofs.jobs.eskihrum_flat_force_plan.Reads as force-plan-reads
+use Rattle.eskihrum.proofs.jobs.eskihrum_flat_test_tasks.Kinds as test-tasks
+use Rattle.eskihrum.proofs.jobs.eskihrum_flat_test_tasks.Reads as test-tasks-reads
+use Rattle.eskihrum.proofs.jobs.eskihrum_flat_force_tasks.Kinds as force-tasks
+use Rattle.eskihrum.proofs.jobs.eskihrum_flat_force_tasks.Reads as force-tasks-reads
+
+told-only : (d : Done) (old ans : List ℕ) {r r′ : ℕ} {new new′ ans₁ ans₂ : List ℕ} → Told d old ans r new ans₁
+    → Told d old ans r′ new′ ans₂ → (r ≡ r′) × (new ≡ new′) × (ans₁ ≡ ans₂)
+told-only d old ans a b =
+    (only (a .yes) (b .yes), only (a .records) (b .records), only (a .answer) (b .answer))
+
+pub eskihrum-abi-only : Only 0 abi.ps abi.r abi-reads.Post
+eskihrum-abi-only κs a x y s s′ p q = only p q
+
+pub eskihrum-flat-test-plan-only : (κs : Lfts 3) (a : Dens κs test-plan.ps)
+    (x y : resT test-plan.r κs .Denot) (s s′ : AtExit (endedOf 3 test-plan.ps test-plan.r) κs)
+    → test-plan-reads.Post κs a x s → test-plan-reads.Post κs a y s′
+    → (x ≡ y) × (now (s .1 .0) ≡ now (s′ .1 .0))
+    × (now (s .1 .1 .0) ≡ now (s′ .1 .1 .0))
+eskihrum-flat-test-plan-only κs a x y s s′ p q = told-only _ _ _ p q
+
+pub eskihrum-flat-force-plan-only : (κs : Lfts 3) (a : Dens κs force-plan.ps)
+    (x y : resT force-plan.r κs .Denot) (s s′ : AtExit (endedOf 3 force-plan.ps force-plan.r) κs)
+    → force-plan-reads.Post κs a x s → force-plan-reads.Post κs a y s′
+    → (x ≡ y) × (now (s .1 .0) ≡ now (s′ .1 .0))
+    × (now (s .1 .1 .0) ≡ now (s′ .1 .1 .0))
+eskihrum-flat-force-plan-only κs a x y s s′ p q = told-only _ _ _ p q
+
+pub eskihrum-flat-test-tasks-only : (κs : Lfts 3) (a : Dens κs test-tasks.ps)
+    (x y : resT test-tasks.r κs .Denot) (s s′ : AtExit (endedOf 3 test-tasks.ps test-tasks.r) κs)
+    → test-tasks-reads.Post κs a x s → test-tasks-reads.Post κs a y s′
+    → (x ≡ y) × (now (s .1 .1 .1 .0) ≡ now (s′ .1 .1 .1 .0))
+    × (now (s .1 .1 .1 .1 .0) ≡ now (s′ .1 .1 .1 .1 .0))
+eskihrum-flat-test-tasks-only κs a x y s s′ p q = told-only _ _ _ p q
+
+pub eskihrum-flat-force-tasks-only : (κs : Lfts 3) (a : Dens κs force-tasks.ps)
+    (x y : resT force-tasks.r κs .Denot) (s s′ : AtExit (endedOf 3 force-tasks.ps force-tasks.r) κs)
+    → force-tasks-reads.Post κs a x s → force-tasks-reads.Post κs a y s′
+    → (x ≡ y) × (now (s .1 .1 .1 .0) ≡ now (s′ .1 .1 .1 .0))
+    × (now (s .1 .1 .1 .1 .0) ≡ now (s′ .1 .1 .1 .1 .0))
+eskihrum-flat-force-tasks-only κs a x y s s′ p q = told-only _ _ _ p q

@@ -1,0 +1,44 @@
+-- Tables and records as C and Rust have them: numbers, one after the other.
+--
+--   a record: flag, forced, bound       recordNumbers
+--   a task: flag, T, C, D               taskIn xs i; what is missing at the end counts as 0
+--   the caller's numbers afterwards     flatAfter
+--
+-- Assumes nothing.
+use Prim.Native.Nat.{ℕ, _+_, _*_, _/_, _%_}
+use mathlib.Core.List.{List, [], _∷_, _++_}
+use lib.ListN.{take, drop}
+use lib.Dec.{eqb}
+use Rattle.base.specs.Choice.{pick}
+use Rattle.base.specs.Rows.{at, row}
+use Rattle.table.specs.Table.{noTask}
+use Rattle.table.specs.declared.Task.{Task}
+use Rattle.planner.specs.declared.Record.{Record}
+use Rattle.planner.specs.declared.Done.{Done}
+
+abbrev pub recordNumbers : Record → List ℕ
+recordNumbers r = r .flag ∷ r .forced ∷ r .bound ∷ []
+
+unfoldable pub numbersOf : List Record → List ℕ
+numbersOf [] = []
+numbersOf (r ∷ rs) = recordNumbers r ++ numbersOf rs
+
+-- the numbers of the records that are written, and the caller's own from there on
+unfoldable pub flatAfter : Done → List ℕ → List ℕ
+flatAfter d old = numbersOf (take (d .count) (d .recs)) ++ drop (3 * d .count) old
+
+-- the number of tasks in so many numbers
+abbrev pub countIn : ℕ → ℕ
+countIn x = pick (eqb (x % 4) 0) (x / 4) (x / 4 + 1)
+
+abbrev pub taskIn : List ℕ → ℕ → Task
+taskIn xs i = record {
+  flag = at xs (4 * i);
+  period = at xs (4 * i + 1);
+  cost = at xs (4 * i + 2);
+  deadline = at xs (4 * i + 3);
+}
+
+-- the first 32 tasks
+abbrev pub tasksIn : List ℕ → List Task
+tasksIn xs = row noTask (taskIn xs) 32

@@ -1,0 +1,13 @@
+-- `told::fields_of` meets its contract: the numbers in their order.
+-- Assumes nothing.
+use mathlib.Core.Path.{refl}
+use Rattle.told.specs.Told.{fields}
+use Rattle.told.proofs.fields_of.Statement.{statement}
+use Rattle.told.proofs.fields_of.Tie as tie
+
+returns : tie.Need-returns
+unfolding fields
+returns c = refl
+
+pub fields-of-spec : {M : Type 1} → statement M
+fields-of-spec = tie.close (tie.spec returns)

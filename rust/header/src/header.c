@@ -1,0 +1,99 @@
+/* header.c: every function and macro of include/eskihrum.h behind a function that can be linked. What a
+ * wrapper answers is handed on by the names of its fields, in an order of this file's own. */
+#include "eskihrum.h"
+
+enum { FIELDS = 6 };
+
+static void hand_on(eskihrum_answer answer, uint32_t told[FIELDS]) {
+    told[0] = answer.records;
+    told[1] = answer.passes;
+    told[2] = answer.forced;
+    told[3] = answer.yes;
+    told[4] = answer.place;
+    told[5] = answer.number;
+}
+
+void header_test_plan(const uint8_t *text, size_t bytes, eskihrum_record *records, size_t room,
+                      uint32_t told[FIELDS]) {
+    hand_on(eskihrum_test_plan(text, bytes, records, room), told);
+}
+
+void header_force_plan(const uint8_t *text, size_t bytes, eskihrum_record *records, size_t room,
+                       uint32_t told[FIELDS]) {
+    hand_on(eskihrum_force_plan(text, bytes, records, room), told);
+}
+
+void header_test_tasks(uint32_t cores, uint32_t policy, const eskihrum_task *tasks, size_t n,
+                       eskihrum_record *records, size_t room, uint32_t told[FIELDS]) {
+    hand_on(eskihrum_test_tasks(cores, policy, tasks, n, records, room), told);
+}
+
+void header_force_tasks(uint32_t cores, uint32_t policy, const eskihrum_task *tasks, size_t n,
+                        eskihrum_record *records, size_t room, uint32_t told[FIELDS]) {
+    hand_on(eskihrum_force_tasks(cores, policy, tasks, n, records, room), told);
+}
+
+/* The older calls, their answer taken apart by the macros. */
+static uint32_t job_of(int force) {
+    return force ? ESKIHRUM_FORCE : ESKIHRUM_TEST;
+}
+
+static void take_apart(uint64_t answer, uint32_t told[FIELDS]) {
+    told[0] = 0;
+    told[1] = ESKIHRUM_PASSES(answer);
+    told[2] = ESKIHRUM_FORCED(answer);
+    told[3] = ESKIHRUM_YES(answer);
+    told[4] = ESKIHRUM_PLACE(answer);
+    told[5] = ESKIHRUM_NUMBER(answer);
+}
+
+void header_plan(int force, const uint8_t *text, size_t bytes, uint32_t *records, size_t records_len,
+                 uint32_t told[FIELDS]) {
+    take_apart(eskihrum_plan(job_of(force), text, bytes, records, records_len), told);
+}
+
+void header_tasks(int force, uint32_t cores, uint32_t policy, const uint32_t *tasks, size_t tasks_len,
+                  uint32_t *records, size_t records_len, uint32_t told[FIELDS]) {
+    take_apart(eskihrum_tasks(job_of(force), cores, policy, tasks, tasks_len, records, records_len), told);
+}
+
+/* What an answer is that nothing was written to: a field that no archive knows is 0. */
+uint32_t header_reserved(const uint8_t *text, size_t bytes, eskihrum_record *records, size_t room) {
+    eskihrum_answer answer = eskihrum_force_plan(text, bytes, records, room);
+    uint32_t all = 0;
+    for (size_t i = 0; i < sizeof answer.reserved / sizeof answer.reserved[0]; i++) all |= answer.reserved[i];
+    return all;
+}
+
+const char *header_text(uint32_t number) {
+    return eskihrum_text(number);
+}
+
+const char *header_advice(uint32_t number) {
+    return eskihrum_advice(number);
+}
+
+uint32_t header_edf(void) {
+    return ESKIHRUM_EDF;
+}
+
+uint32_t header_fp(void) {
+    return ESKIHRUM_FP;
+}
+
+uint32_t header_preemptive(void) {
+    return ESKIHRUM_PREEMPTIVE;
+}
+
+uint32_t header_non_preemptive(void) {
+    return ESKIHRUM_NON_PREEMPTIVE;
+}
+
+size_t header_most(void) {
+    return ESKIHRUM_TASKS;
+}
+
+/* Whether the archive serves this header. */
+int header_served(void) {
+    return eskihrum_abi() >= ESKIHRUM_ABI;
+}

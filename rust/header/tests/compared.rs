@@ -1,0 +1,64 @@
+//! The header's functions and macros against the second program.
+
+use eskihrum_header::{older_plan, older_tasks, plan, tasks, Record, Task, Told};
+use second::compare::{short, Compared, Planner, FORCE};
+
+/// The second program's one number for an answer: number, place, forced and passes a byte each, then yes.
+fn word(told: Told) -> u64 {
+    u64::from(told.number)
+        + (u64::from(told.place) << 8)
+        + (u64::from(told.forced) << 16)
+        + (u64::from(told.passes) << 24)
+        + (u64::from(told.yes) << 32)
+}
+
+/// Lends the numbers as records, with guards behind them that no call may touch, and counts what was written.
+fn as_records(numbers: &mut [u32], run: impl FnOnce(&mut [Record]) -> Told) -> u64 {
+    const GUARD: Record = [0xC3C3_C3C3, 0x3C3C_3C3C, 0x5555_5555];
+    let room = numbers.len() / 3;
+    let mut records: Vec<Record> = numbers.chunks(3).map(|three| [three[0], three[1], three[2]]).collect();
+    records.resize(room + 40, GUARD);
+    let told = run(&mut records[..room]);
+    assert!(records[room..].iter().all(|record| *record == GUARD), "written past the caller's list");
+    let changed =
+        numbers.chunks(3).zip(&records).rposition(|(old, new)| old != new).map_or(0, |last| last + 1);
+    assert_eq!(told.records as usize, changed, "the number of records");
+    for (three, record) in numbers.chunks_mut(3).zip(&records) {
+        three.copy_from_slice(record);
+    }
+    word(told)
+}
+
+fn wrapped_text(job: u32, text: &[u8], records: &mut [u32]) -> u64 {
+    as_records(records, |room| plan(job == FORCE, text, room))
+}
+
+fn wrapped_list(job: u32, cores: u32, policy: u32, numbers: &[u32], records: &mut [u32]) -> u64 {
+    let list: Vec<Task> = numbers.chunks(4).map(|four| [four[0], four[1], four[2], four[3]]).collect();
+    as_records(records, |room| tasks(job == FORCE, cores, policy, &list, room))
+}
+
+fn older_text(job: u32, text: &[u8], records: &mut [u32]) -> u64 {
+    word(older_plan(job == FORCE, text, records))
+}
+
+fn older_list(job: u32, cores: u32, policy: u32, numbers: &[u32], records: &mut [u32]) -> u64 {
+    word(older_tasks(job == FORCE, cores, policy, numbers, records))
+}
+
+fn told(way: &str, seed: u64, compared: Compared) {
+    match compared {
+        Ok(calls) => println!("{way}: {calls} calls agree, seed {seed}"),
+        Err(difference) => panic!("{way}, seed {seed}: {difference}"),
+    }
+}
+
+#[test]
+fn header_functions_agree() {
+    told("header", 306, short(&Planner { text: wrapped_text, list: wrapped_list }, 306));
+}
+
+#[test]
+fn header_macros_agree() {
+    told("header's macros", 307, short(&Planner { text: older_text, list: older_list }, 307));
+}

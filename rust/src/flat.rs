@@ -1,0 +1,187 @@
+//! The archive's functions on flat numbers, as C calls them: four numbers to a task, three to a record.
+//!
+//! All that is unsafe in this package is here: the calls, and the view of tasks and records as the numbers
+//! that they are made of. Only a caller that has such numbers already, or that asks for a policy that is not
+//! there, needs it.
+
+use crate::{Record, Task};
+
+/// How many numbers an answer has. A shorter list gets the first of them; past them a list keeps its own.
+pub const FIELDS: usize = 16;
+/// The place of the refusal's number, 0 for none.
+pub const NUMBER: usize = 0;
+/// The place of the refusal's place.
+pub const PLACE: usize = 1;
+/// The place of the yes, 1 or 0.
+pub const YES: usize = 2;
+/// The place of the number of forced tasks.
+pub const FORCED: usize = 3;
+/// The place of the number of passes.
+pub const PASSES: usize = 4;
+/// The place of the number of records that were written.
+pub const RECORDS: usize = 5;
+
+/// What this wrapper knows of the archive: calls and numbers of an answer are only ever added.
+pub const ABI: u32 = 1;
+
+// checks/border.py compares these declarations with the archive's source.
+extern "C" {
+    fn eskihrum_abi() -> u32;
+    fn eskihrum_flat_test_plan(
+        text: *const u8,
+        text_len: usize,
+        records: *mut u32,
+        records_len: usize,
+        answer: *mut u32,
+        answer_len: usize,
+    ) -> u32;
+    fn eskihrum_flat_force_plan(
+        text: *const u8,
+        text_len: usize,
+        records: *mut u32,
+        records_len: usize,
+        answer: *mut u32,
+        answer_len: usize,
+    ) -> u32;
+    fn eskihrum_flat_test_tasks(
+        cores: u32,
+        policy: u32,
+        tasks: *const u32,
+        tasks_len: usize,
+        records: *mut u32,
+        records_len: usize,
+        answer: *mut u32,
+        answer_len: usize,
+    ) -> u32;
+    fn eskihrum_flat_force_tasks(
+        cores: u32,
+        policy: u32,
+        tasks: *const u32,
+        tasks_len: usize,
+        records: *mut u32,
+        records_len: usize,
+        answer: *mut u32,
+        answer_len: usize,
+    ) -> u32;
+    fn eskihrum_plan(
+        job: u32,
+        text: *const u8,
+        text_len: usize,
+        records: *mut u32,
+        records_len: usize,
+    ) -> u64;
+    fn eskihrum_tasks(
+        job: u32,
+        cores: u32,
+        policy: u32,
+        tasks: *const u32,
+        tasks_len: usize,
+        records: *mut u32,
+        records_len: usize,
+    ) -> u64;
+}
+
+// SAFETY, of every call below: the archive reads and writes within the lists that it is lent, for the call
+// alone, and keeps nothing. A slice is a pointer and a count; two slices of which one is mutable do not
+// overlap.
+
+/// What the archive knows; at least [`ABI`].
+pub fn abi() -> u32 {
+    // SAFETY: it takes nothing.
+    unsafe { eskihrum_abi() }
+}
+
+/// The test of a plan text; 1 for a yes.
+pub fn test_plan(text: &[u8], records: &mut [u32], answer: &mut [u32]) -> u32 {
+    // SAFETY: as above.
+    unsafe {
+        eskihrum_flat_test_plan(
+            text.as_ptr(),
+            text.len(),
+            records.as_mut_ptr(),
+            records.len(),
+            answer.as_mut_ptr(),
+            answer.len(),
+        )
+    }
+}
+
+/// Forcing of a plan text; 1 where it accepts.
+pub fn force_plan(text: &[u8], records: &mut [u32], answer: &mut [u32]) -> u32 {
+    // SAFETY: as above.
+    unsafe {
+        eskihrum_flat_force_plan(
+            text.as_ptr(),
+            text.len(),
+            records.as_mut_ptr(),
+            records.len(),
+            answer.as_mut_ptr(),
+            answer.len(),
+        )
+    }
+}
+
+/// The test of a flat table; 1 for a yes.
+pub fn test_tasks(cores: u32, policy: u32, tasks: &[u32], records: &mut [u32], answer: &mut [u32]) -> u32 {
+    // SAFETY: as above.
+    unsafe {
+        eskihrum_flat_test_tasks(
+            cores,
+            policy,
+            tasks.as_ptr(),
+            tasks.len(),
+            records.as_mut_ptr(),
+            records.len(),
+            answer.as_mut_ptr(),
+            answer.len(),
+        )
+    }
+}
+
+/// Forcing of a flat table; 1 where it accepts.
+pub fn force_tasks(cores: u32, policy: u32, tasks: &[u32], records: &mut [u32], answer: &mut [u32]) -> u32 {
+    // SAFETY: as above.
+    unsafe {
+        eskihrum_flat_force_tasks(
+            cores,
+            policy,
+            tasks.as_ptr(),
+            tasks.len(),
+            records.as_mut_ptr(),
+            records.len(),
+            answer.as_mut_ptr(),
+            answer.len(),
+        )
+    }
+}
+
+/// The older call on a plan text: 0 for the test, any other number for forcing. Number, place, forced count
+/// and passes are the bytes of the result from the lowest on, and the yes is its bit 32.
+pub fn plan(job: u32, text: &[u8], records: &mut [u32]) -> u64 {
+    // SAFETY: as above.
+    unsafe { eskihrum_plan(job, text.as_ptr(), text.len(), records.as_mut_ptr(), records.len()) }
+}
+
+/// The older call on a flat table, as [`plan`].
+pub fn tasks(job: u32, cores: u32, policy: u32, tasks: &[u32], records: &mut [u32]) -> u64 {
+    // SAFETY: as above.
+    unsafe {
+        eskihrum_tasks(job, cores, policy, tasks.as_ptr(), tasks.len(), records.as_mut_ptr(), records.len())
+    }
+}
+
+const _: () = assert!(size_of::<Task>() == 4 * size_of::<u32>() && align_of::<Task>() == align_of::<u32>());
+const _: () =
+    assert!(size_of::<Record>() == 3 * size_of::<u32>() && align_of::<Record>() == align_of::<u32>());
+
+/// Tasks as the numbers that they are made of: flag, T, C, D.
+pub fn numbers(tasks: &[Task]) -> &[u32] {
+    // SAFETY: a Task is four u32 in order and nothing else, and every u32 is a number that it may hold.
+    unsafe { core::slice::from_raw_parts(tasks.as_ptr().cast(), tasks.len() * 4) }
+}
+
+/// Records as the numbers that they are made of: flag, forced mark, bound.
+pub fn numbers_mut(records: &mut [Record]) -> &mut [u32] {
+    // SAFETY: a Record is three u32 in order and nothing else, and every u32 is a number that it may hold.
+    unsafe { core::slice::from_raw_parts_mut(records.as_mut_ptr().cast(), records.len() * 3) }
+}
