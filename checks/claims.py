@@ -1,47 +1,170 @@
 #!/usr/bin/env python3
-"""claims.py: docs/CLAIMS.md names theorems and edits that exist, README and the docs name files that exist.
+"""claims.py: docs/CLAIMS.md says what is proved, and the sources say the same.
 
-A row of CLAIMS.md ends in a theorem and a file, each in backquotes: | sentence | `theorem` | `path` |.
-The theorem has to be declared in that file, and public there. Prints what is wrong, and exits with 1.
+A theorem or a function is named by a link, [`name`](../path#L12): the file declares that name, publicly, in
+that line. A row that names one has its sentence. Every specs file that the front page reaches is listed,
+every theorem of the front page and every word of its own specs stands in the paper as the source has it,
+every public function has a row with its promise and one with two wrong answers, and every edit and file that
+a paper names is there. Prints what is wrong, a line each, and exits with 1. With the word `lines` it first
+sets the line numbers right.
 """
 import pathlib
 import re
 import sys
 
 ROOT = pathlib.Path(__file__).resolve().parent.parent
+PAPER = ROOT / "docs" / "CLAIMS.md"
+FRONT = ROOT / "crates" / "claims" / "proofs" / "FrontPage.antt"
 FOLDERS = "docs|crates|checks|examples|corpus|second|rust|bench|include|tools"
+LINK = re.compile(r"\[`([^`]+)`\]\(\.\./([\w/.+-]+)#L(\d+)\)")
+NAMES_IN_SPECS = re.compile(r"^use Rattle·(\w+?)(?:·specs)?\.specs\.(?:specs\.)?((?:declared\.)?\w+)", re.M)
 
 
-def rows(text):
-    """(line number, theorems, path) of each row that names a theorem and an antt file."""
+def declares(line, name):
+    """Whether a line of a source declares the public name; a function may be written CRATE::NAME."""
+    name = re.escape(name.split("::")[-1])
+    law = rf"\s*(?:unfoldable |abbrev )?pub (?:record |data )?{name}(?=[\s:]|$)"
+    return bool(re.match(law, line) or re.match(rf"\s*pub (?:extern \"C\" )?fn {name}\(", line))
+
+
+def links(fix):
+    """Each link's name is declared in its line; with `fix`, lines are set right first."""
+    text = PAPER.read_text(encoding="utf-8")
+
+    def right(found):
+        name, path, _ = found.groups()
+        lines = (ROOT / path).read_text(encoding="utf-8").splitlines() if (ROOT / path).is_file() else []
+        at = [number for number, line in enumerate(lines, 1) if declares(line, name)]
+        return f"[`{name}`](../{path}#L{at[0]})" if at else found.group(0)
+
+    if fix:
+        text = LINK.sub(right, text)
+        PAPER.write_text(text, encoding="utf-8")
     for number, line in enumerate(text.splitlines(), 1):
-        cells = [cell.strip() for cell in line.strip().strip("|").split("|")]
-        if line.startswith("|") and len(cells) >= 2 and re.fullmatch(r"`[\w/+.-]+\.antt`", cells[-1]):
-            yield number, re.findall(r"`([^`]+)`", cells[-2]), cells[-1].strip("`")
+        for name, path, at in LINK.findall(line):
+            file = ROOT / path
+            if not file.is_file():
+                yield f"docs/CLAIMS.md:{number}: there is no file {path}"
+                continue
+            lines = file.read_text(encoding="utf-8").splitlines()
+            if not (0 < int(at) <= len(lines) and declares(lines[int(at) - 1], name)):
+                yield f"docs/CLAIMS.md:{number}: line {at} of {path} does not declare {name}"
 
 
-def claimed():
-    text = (ROOT / "docs" / "CLAIMS.md").read_text(encoding="utf-8")
-    count = 0
-    for number, theorems, path in rows(text):
-        file = ROOT / path
-        if not file.is_file():
-            yield f"docs/CLAIMS.md:{number}: there is no file {path}"
+def rows():
+    """(line number, header, cells) of each row of each table."""
+    header = None
+    for number, line in enumerate(PAPER.read_text(encoding="utf-8").splitlines(), 1):
+        if not line.startswith("|"):
+            header = None
             continue
-        source = file.read_text(encoding="utf-8")
-        for theorem in theorems:
-            count += 1
-            declared = rf"^ *(?:unfoldable |abbrev )?pub (?:record |data )?{re.escape(theorem)}(?=[ :])"
-            if not re.search(declared, source, re.M):
-                yield f"docs/CLAIMS.md:{number}: {path} has no public {theorem}"
-    if not count:
-        yield "docs/CLAIMS.md: no row names a theorem"
+        cells = [cell.strip() for cell in line.strip().strip("|").split("|")]
+        if header is None:
+            header = cells
+        elif not all(re.fullmatch(r":?-+:?", cell) for cell in cells):
+            yield number, header, cells
+
+
+def sentences():
+    """A row that names a theorem says in words what it says."""
+    for number, header, cells in rows():
+        if len(cells) != len(header):
+            yield f"docs/CLAIMS.md:{number}: {len(cells)} cells under {len(header)} headings"
+        row = dict(zip(header, cells))
+        if "Theorem" in row:
+            if len(re.findall(r"\w+", LINK.sub("", row.get("Sentence", "")))) < 3:
+                yield f"docs/CLAIMS.md:{number}: a row without a sentence"
+            if not LINK.search(row["Theorem"]):
+                yield f"docs/CLAIMS.md:{number}: a row without a theorem"
+
+
+def reached():
+    """The files with the definitions that the front page's statements are made of."""
+    seen, waiting = set(), [FRONT]
+    while waiting:
+        for crate, name in NAMES_IN_SPECS.findall(waiting.pop().read_text(encoding="utf-8")):
+            base = ROOT / "crates" / crate
+            declared = name.startswith("declared.")
+            file = base / "src" / "lib.rt" if declared else base / "specs" / f"{name}.antt"
+            if file not in seen:
+                seen.add(file)
+                waiting += [file] if file.suffix == ".antt" else []
+    return sorted(seen)
+
+
+def listed():
+    text = PAPER.read_text(encoding="utf-8")
+    for file in reached():
+        path = file.relative_to(ROOT)
+        if not file.is_file():
+            yield f"{path}: the front page needs it, and it is not there"
+        elif f"`{path}`" not in text:
+            yield f"docs/CLAIMS.md: the front page needs {path}, which is not listed"
+
+
+def plain(text):
+    """A piece of a source or of the paper without comments, with single spaces."""
+    return " ".join(re.sub(r"--.*", "", text).split())
+
+
+def pieces(text):
+    """A text cut before each line that is not set in; a closing brace belongs to what it closes."""
+    return re.split(r"\n(?=[^\s}])", text)
+
+
+def declarations(text, with_bodies):
+    """The public declarations of an antt file: name, text; of a law without its proof."""
+    for piece in pieces(re.sub(r"--.*", "", text)):
+        found = re.match(r"(?:unfoldable |abbrev )?pub (?:record |data )?([^\s:]+)", piece)
+        if piece.startswith(("use ", "pub mod ")) or not piece.strip():
+            continue
+        if found or with_bodies:
+            yield found.group(1) if found else piece.split()[0], piece
+
+
+def statements():
+    """The front page and the words of its own crate, held to the blocks of the paper that repeat them."""
+    blocks = re.findall(r"^```antt\n(.*?)^```$", PAPER.read_text(encoding="utf-8"), re.M | re.S)
+    said = {plain(piece) for block in blocks for piece in pieces(block)} - {""}
+    meant = {}
+    for name, piece in declarations(FRONT.read_text(encoding="utf-8"), False):
+        meant[plain(piece)] = f"the front page's {name}"
+    for file in sorted((ROOT / "crates" / "claims" / "specs").glob("*.antt")):
+        for name, piece in declarations(file.read_text(encoding="utf-8"), True):
+            meant[plain(piece)] = f"{name} of {file.relative_to(ROOT)}"
+    for text in sorted(set(meant) - said):
+        yield f"docs/CLAIMS.md: {meant[text]} does not stand there as it is"
+    for text in sorted(said - set(meant)):
+        yield f"docs/CLAIMS.md: no source says: {text[:90]}"
+
+
+def functions():
+    """Every public function of a library has its promise and its two wrong answers."""
+    promised, wrong = set(), {}
+    for _, header, cells in rows():
+        row = dict(zip(header, cells))
+        names = [f"{path.split('/')[1]}::{name.split('::')[-1]}" for name, path, _ in
+                 LINK.findall(row.get("Function", ""))]
+        if "Promise" in row:
+            promised |= set(names)
+        for name in names if "Edit" in row else []:
+            wrong[name] = len(re.findall(r"`[a-z_]+/[a-z0-9_]+`", row["Edit"]))
+    for source in sorted((ROOT / "crates").glob("*/src/lib.rt")):
+        crate = source.parts[-3]
+        base = ROOT / "crates" / crate
+        if not (base / "proofs").is_dir() or (base / "stdout").is_file():
+            continue
+        text = source.read_text(encoding="utf-8")
+        for name in re.findall(r"^pub (?:extern \"C\" )?fn (\w+)\(", text, re.M):
+            if f"{crate}::{name}" not in promised:
+                yield f"docs/CLAIMS.md: no row has the promise of {crate}::{name}"
+            if wrong.get(f"{crate}::{name}", 0) < 2:
+                yield f"docs/CLAIMS.md: {crate}::{name} has not two wrong answers"
 
 
 def edits():
     """Must-fail edits, written CRATE/LABEL in backquotes."""
-    text = (ROOT / "docs" / "CLAIMS.md").read_text(encoding="utf-8")
-    for crate, label in re.findall(r"`([a-z_]+)/([a-z0-9_]+)`", text):
+    for crate, label in re.findall(r"`([a-z_]+)/([a-z0-9_]+)`", PAPER.read_text(encoding="utf-8")):
         if not (ROOT / "crates" / crate / "must-fail" / f"{label}.edit").is_file():
             yield f"docs/CLAIMS.md: there is no edit {crate}/{label}"
 
@@ -56,12 +179,13 @@ def linked():
 
 
 def main():
-    wrong = [*claimed(), *edits(), *linked()]
+    fix = sys.argv[1:] == ["lines"]
+    wrong = [*links(fix), *sentences(), *listed(), *statements(), *functions(), *edits(), *linked()]
     for line in wrong:
         print(line)
     if wrong:
         sys.exit(f"claims: {len(wrong)} to mend")
-    print("claims: every theorem and file that the papers name is there")
+    print(f"claims: {len(reached())} files to read; every theorem, statement, function and file is as told")
 
 
 if __name__ == "__main__":

@@ -16,3 +16,10 @@ abbrev pub Only : (n : ℕ) (ps : List (PK n)) (r : RK n) → Out n ps r → Typ
 Only n ps r Post =
     (κs : Lfts n) (a : Dens κs ps) (x y : resT r κs .Denot) (s s′ : AtExit (endedOf n ps r) κs)
     → Post κs a x s → Post κs a y s′ → x ≡ y
+
+-- at the same arguments, what the promise allows is one result, and one list in the end
+abbrev pub OnlyWith : (n : ℕ) (ps : List (PK n)) (r : RK n) → Out n ps r
+    → ((κs : Lfts n) → AtExit (endedOf n ps r) κs → List ℕ) → Type 0
+OnlyWith n ps r Post later =
+    (κs : Lfts n) (a : Dens κs ps) (x y : resT r κs .Denot) (s s′ : AtExit (endedOf n ps r) κs)
+    → Post κs a x s → Post κs a y s′ → (x ≡ y) × (later κs s ≡ later κs s′)

@@ -1,38 +1,69 @@
--- Demand 1, proved: see specs/Demand1.antt for what each theorem says.
+-- The work behind demand 1: every call has exactly one answer, by what it sends or by its first fault.
 -- Assumes nothing.
-use mathlib.Core.Path.{refl, sym, ap, _∙_}
+use Prim.Native.Nat.{ℕ, _≤_, _<_}
+use mathlib.Core.Path.{_≡_, refl, sym, ap, subst, _∙_}
+use mathlib.Core.List.{List}
 use lib.ListN.{length}
+use Rattle.table.specs.declared.Table.{Table}
+use Rattle.table.specs.Table.{LegalTable}
+use Rattle.table.specs.Faults.{Within}
+use Rattle.lines.specs.Writes.{ZerosPast, planText}
+use Rattle.lines.proofs.Theorems.{reading-exact, text-accepted}
+use Rattle.planner.specs.declared.Answer.{Answer}
+use Rattle.planner.specs.declared.Job.{Job}
+use Rattle.planner.specs.declared.Record.{Record}
 use Rattle.planner.specs.Answers.{refused, recordAt}
-use Rattle.planner.specs.Ways.{faulty, full}
-use Rattle.planner.proofs.CallLaws.{call-cases, call-not-both}
-use Rattle.planner.proofs.WayLaws.{answer-exact}
+use Rattle.planner.specs.Done.{listAfter}
+use Rattle.planner.specs.Calls.{Call, plan, Answered, Sends, by-text, Faulty}
+use Rattle.planner.specs.Calls.{doneOf}
+use Rattle.planner.specs.Ways.{Verdicts, Way, faulty, full}
+use Rattle.planner.proofs.ValueLaws as values
+use Rattle.planner.proofs.WayLaws.{answer-exact, sends-verdict}
 use Rattle.planner.proofs.AfterLaws.{refusal-after, length-after, rest-after}
 use Rattle.entries.proofs.Unique.{answered-only}
-use Rattle.claims.specs.Demand1.{OneResult, EveryCall, NeverBoth, FaultRefused, RoomRefused}
-use Rattle.claims.specs.Demand1.{RefusalKeeps, RestKept}
+use Rattle.claims.specs.Words.{One, Asks}
 
-pub one-result : OneResult
-one-result = answered-only
+pub one-answer : (c : Call) (job : Job) (old : List Record) → One (Answered c job old)
+one-answer c job old = record {
+  answer = doneOf c job (length old) .answer;
+  list = listAfter (doneOf c job (length old)) old;
+  is = (refl, refl);
+  only = λ a new h. answered-only c job old a _ new _ h (refl, refl);
+}
 
-pub every-call : EveryCall
-every-call = call-cases
+-- the verdict on a table that is sent with room
+pub verdict : {c : Call} {t : Table} {old : List Record} → Asks c t old → {job : Job} {a : Answer}
+    {new : List Record} → Answered c job old a new → Verdicts t job a
+verdict {t = t} {old = old} s {job} h =
+    subst (Verdicts t job) (sym (h .0)) (sends-verdict (s .sends) job (length old) (s .room))
 
-pub never-both : NeverBoth
-never-both c t f p s w = call-not-both s w
+-- every legal table can be sent as a text
+pub legal-sent : (t : Table) → LegalTable t → ZerosPast t → Sends (plan (planText t)) t
+legal-sent t legal zeros = by-text (reading-exact (planText t) t .0 (text-accepted t legal zeros))
 
-pub fault-refused : FaultRefused
-fault-refused c f p w job old a new h =
-    h .0 ∙ sym (answer-exact c job (length old) (refused f p 0) .1 (faulty w))
+module _ (c : Call) (job : Job) (old : List Record) {a : Answer} {new : List Record}
+    (h : Answered c job old a new) where
+  way : Way c (length old) job a
+  way = answer-exact c job (length old) a .0 (h .0)
 
-pub room-refused : RoomRefused
-room-refused c t s job old a new h small =
-    h .0 ∙ sym (answer-exact c job (length old) (refused 13 0 0) .1 (full s small))
+  pub fault-refused : {f p : ℕ} → Faulty c f p → a ≡ refused f p 0
+  fault-refused {f} {p} w = h .0 ∙ sym (answer-exact c job (length old) (refused f p 0) .1 (faulty w))
 
-pub refusal-keeps : RefusalKeeps
-refusal-keeps c job old number place passes new h = h .1 ∙ refusal-after c job (length old) (sym (h .0)) old
+  pub room-refused : {t : Table} → Sends c t → length old < t .n → a ≡ refused 13 0 0
+  room-refused s small = h .0 ∙ sym (answer-exact c job (length old) (refused 13 0 0) .1 (full s small))
 
-pub rest-kept : RestKept
-rest-kept c t s job old a new h = (
-  ap length (h .1) ∙ length-after s job (length old) old refl,
-  λ i l. ap (λ rs. recordAt rs i) (h .1) ∙ rest-after s job (length old) old i l,
-)
+  -- the list keeps its length, and its records past the n-th
+  pub rest-kept : {t : Table} → Sends c t
+      → (length new ≡ length old) × ((i : ℕ) → t .n ≤ i → recordAt new i ≡ recordAt old i)
+  rest-kept s = (
+    ap length (h .1) ∙ length-after s job (length old) old refl,
+    λ i l. ap (λ rs. recordAt rs i) (h .1) ∙ rest-after s job (length old) old i l,
+  )
+
+pub refusal-keeps : (c : Call) (job : Job) (old : List Record) {number place passes : ℕ} {new : List Record}
+    → Answered c job old (refused number place passes) new → new ≡ old
+refusal-keeps c job old h = h .1 ∙ refusal-after c job (length old) (sym (h .0)) old
+
+pub refusal-numbered : (c : Call) (job : Job) (old : List Record) {number place passes : ℕ}
+    {new : List Record} → Answered c job old (refused number place passes) new → Within 1 14 number
+refusal-numbered c job old h = values.refusal-numbered (way c job old h)

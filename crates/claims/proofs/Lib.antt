@@ -1,8 +1,11 @@
 pub mod Demand1
+pub mod Algorithm2
 pub mod Demand2
 pub mod Demand3
+pub mod Below
+pub mod Cases
 pub mod Meaning
 pub mod NeverHurts
 pub mod MayHurt
-pub mod Cases
 pub mod Wrong
+pub mod FrontPage

@@ -1,18 +1,38 @@
--- What a pass means, proved from the planner's promise and the theorem of the crate `schedule`.
--- Assumes nothing.
-use Prim.Native.Nat.{ℕ, _<_}
-use mathlib.Core.Path.{_≡_, refl, ap}
+-- What a yes means, from the planner's promise and the theorem of the crate `schedule`: the bounds are kept
+-- in every schedule by the rules, and such schedules exist for exactly what may be asked. Assumes nothing.
+use Prim.Native.Nat.{ℕ, zero, suc, _+_, _≤_, _<_}
+use native.Mathlib.Omega.{arith}
+use mathlib.Core.Path.{_≡_, refl, sym, _∙_}
+use mathlib.Core.Bool.{Bool, true, false}
+use mathlib.Core.Logic.{_↔_}
+use mathlib.Core.List.{List}
+use lib.Dec.{eqb}
+use borrow.Author.Tests.{eqb-true, eqb-false, ltb-true}
 use Rattle.model.specs.Bound.{System, Legal, bound}
-use Rattle.base.specs.Rows.{at}
-use Rattle.schedule.specs.Promise.{Promise}
+use Rattle.model.specs.Demands.{Passes}
+use Rattle.schedule.specs.Schedule.{Follows}
+use Rattle.schedule.specs.Promise.{Promise, Asked}
+use Rattle.schedule.specs.Example.{caseB}
+use Rattle.schedule.specs.OneByOne.{NoneBelow}
 use Rattle.schedule.proofs.Sound.{sound-passing}
+use Rattle.schedule.proofs.Existence.{schedules, by-place}
+use Rattle.schedule.proofs.CaseB.{two}
 use Rattle.table.specs.declared.Table.{Table}
-use Rattle.table.specs.Table.{LegalTable, systemOf, flagsOf}
-use Rattle.claims.specs.Demand2.{flagsIn, boundsIn}
-use Rattle.claims.specs.Meaning.{PassMeans, YesMeans}
+use Rattle.table.specs.Table.{LegalTable, systemOf}
+use Rattle.planner.specs.declared.Job.{Job}
+use Rattle.planner.specs.declared.Job.the-variants.{Test, Force}
+use Rattle.planner.specs.declared.Record.{Record}
+use Rattle.planner.specs.Answers.{given}
+use Rattle.planner.specs.Calls.{Call, Answered}
+use Rattle.planner.specs.Done.{sent, loaded}
+use Rattle.planner.specs.Ways.{Verdicts, tested-yes}
 use Rattle.planner.proofs.CallLaws.{sends-legal}
-use Rattle.claims.proofs.Demand2.{tested-record, forced-bound, test-is-least}
-use Rattle.claims.proofs.Demand3.{given-out}
+use Rattle.model.proofs.BoundLaws.{bound-same}
+use Rattle.claims.specs.Words.{Asks, flagsIn, boundsIn}
+use Rattle.claims.specs.Meaning.{pairTable, SameSystem, fullRelease, fullNeed}
+use Rattle.claims.proofs.Demand1.{verdict}
+use Rattle.claims.proofs.Demand2.{tested-flag, tested-bound, forced-bound}
+use Rattle.claims.proofs.Demand3.{passes-same, given-out}
 
 legal-system : {t : Table} → LegalTable t → Legal (systemOf t)
 legal-system legal = record {
@@ -27,16 +47,88 @@ promise-same : (s : System) (fl R R′ : ℕ → ℕ) → ((k : ℕ) → k < s .
     → Promise s fl R′
 promise-same s fl R R′ same p x rules k a l = rw (same k l) (p x rules k a l)
 
-pub pass-means : PassMeans
-pass-means c t s old room f p new h =
-    promise-same (systemOf t) (flagsIn new) (bound (systemOf t) (flagsIn new)) (boundsIn new)
-    (forced-bound s old room h)
-    (sound-passing (systemOf t) (flagsIn new) (legal-system (sends-legal s)) (λ k l. refl)
-    (given-out s old room h .passes))
+-- where the flags in the records pass, and the records hold their bounds, the bounds are kept
+kept : {t : Table} → LegalTable t → (new : List Record) → Passes (systemOf t) (flagsIn new)
+    → ((k : ℕ) → k < t .n → boundsIn new k ≡ bound (systemOf t) (flagsIn new) k)
+    → Promise (systemOf t) (flagsIn new) (boundsIn new)
+kept {t} legal new pass same =
+    promise-same (systemOf t) (flagsIn new) (bound (systemOf t) (flagsIn new)) (boundsIn new) same
+    (sound-passing (systemOf t) (flagsIn new) (legal-system legal) (λ k l. refl) pass)
 
-pub yes-means : YesMeans
-yes-means c t s old room new h =
-    promise-same (systemOf t) (at (flagsOf t)) (bound (systemOf t) (at (flagsOf t))) (boundsIn new)
-    (λ k l. ap (λ r. r .bound) (tested-record s old room h k l))
-    (sound-passing (systemOf t) (at (flagsOf t)) (legal-system (sends-legal s)) (λ k l. refl)
-    (test-is-least c t s old room _ new h .yes .0 refl))
+said-yes : {t : Table} {f p : ℕ} → Verdicts t Test (given true f p) → Passes (systemOf t) (sent t)
+said-yes (tested-yes pass) = pass
+
+pub yes-means : {c : Call} {t : Table} {old : List Record} → Asks c t old → (job : Job) {f p : ℕ}
+    {new : List Record} → Answered c job old (given true f p) new
+    → Promise (systemOf t) (flagsIn new) (boundsIn new)
+yes-means {t = t} s Test {new = new} h =
+    let legal : LegalTable t = sends-legal (s .sends) in
+    kept legal new (passes-same legal (flagsIn new) (sent t) (tested-flag s h) (said-yes (verdict s h)))
+    (λ k l.
+    tested-bound s h k l
+    ∙ bound-same (systemOf t) (sent t) (flagsIn new) k (legal .each k l .some) l (tested-flag s h))
+yes-means s Force {new = new} h =
+    kept (sends-legal (s .sends)) new (given-out s h .passes) (forced-bound s h)
+
+-- a schedule by the rules exists for exactly what may be asked
+pub schedule-exactly : {t : Table} → LegalTable t → (fl : ℕ → ℕ) (release need : ℕ → ℕ → ℕ)
+    → ((runs : ℕ → ℕ → ℕ → ℕ)
+    × Follows (systemOf t) fl (record { release = release; need = need; runs = runs }))
+    ↔ Asked (systemOf t) release need
+schedule-exactly {t} legal fl release need = (
+  λ x. record { within = x .1 .basic .within; apart = x .1 .basic .apart },
+  schedules (systemOf t) fl (λ i. i) release need (legal-system legal) (by-place (systemOf t) (λ k i. refl)),
+)
+
+-- case b of the crate `schedule` is document 01's, as the planner takes it
+pub case-b-table : SameSystem caseB (systemOf (pairTable 12 1))
+unfolding loaded
+case-b-table = record {
+  policy = refl;
+  cores = refl;
+  count = refl;
+  T = two (λ i. caseB .T i ≡ systemOf (pairTable 12 1) .T i) refl refl;
+  C = two (λ i. caseB .C i ≡ systemOf (pairTable 12 1) .C i) refl refl;
+  D = two (λ i. caseB .D i ≡ systemOf (pairTable 12 1) .D i) refl refl;
+  S = λ i _. refl;
+  higher = λ k i. refl;
+}
+
+-- every job may need its whole C, and gaps may differ
+pub full-asked : Asked (systemOf (pairTable 12 1)) (fullRelease (pairTable 12 1)) (fullNeed (pairTable 12 1))
+unfolding loaded
+full-asked = record {
+  within = λ i j l. omega arith;
+  apart = λ i j l.
+      two
+      (λ i.
+      fullRelease (pairTable 12 1) i j + systemOf (pairTable 12 1) .T i
+      ≤ fullRelease (pairTable 12 1) i (suc j))
+      (first j) (second j) i l;
+}
+  where
+    first : (j : ℕ) → fullRelease (pairTable 12 1) 0 j + 12 ≤ fullRelease (pairTable 12 1) 0 (suc j)
+    first zero = omega arith
+    first (suc j) = omega arith
+
+    second : (j : ℕ) → fullRelease (pairTable 12 1) 1 j + 24 ≤ fullRelease (pairTable 12 1) 1 (suc j)
+    second zero = omega arith
+    second (suc j) = omega arith
+
+-- with places as priorities, "no N below an N" is "at most one N"
+pub at-most-one : (t : Table) (fl : ℕ → ℕ)
+    → NoneBelow (systemOf t) fl
+    ↔ ((k i : ℕ) → k < t .n → i < t .n → fl k ≡ 0 → fl i ≡ 0 → i ≡ k)
+at-most-one t fl = (
+  λ none k i lk li ok oi. go none k i lk li ok oi (eqb i k) refl,
+  λ one k i lk li ne ok oi. absurd (ne (one k i lk li ok oi)),
+)
+  where
+    go : NoneBelow (systemOf t) fl → (k i : ℕ) → k < t .n → i < t .n → fl k ≡ 0 → fl i ≡ 0 → (b : Bool)
+        → eqb i k ≡ b → i ≡ k
+    go none k i lk li ok oi true e = eqb-true i k e
+    go none k i lk li ok oi false e =
+        let ne : i ≡ k → ⊥ = eqb-false i k e in
+        let below : i < k = ltb-true i k (none k i lk li ne ok oi) in
+        let above : k < i = ltb-true k i (none i k li lk (λ z. ne (sym z)) oi ok) in
+        absurd (let z : ⊥ = omega arith in z)

@@ -1,10 +1,16 @@
 -- Document 01, "Sums done by hand": the marked cases a to l, each a call with the answer and the bounds that
--- must come.
+-- must come; and beside them cases that are wrong by one number each, which no judge may take.
+--
+--   the marked cases, in table order                     cases (k twice, for either flag)
+--   the planner answers the case so                      right c
+--   every case is right; no case is right                every cases; noneOf wrongCases
+--   the case at a place of a list                        caseAt cs i
+--
 -- Assumes nothing.
 use Prim.Native.Nat.{ℕ}
 use mathlib.Core.Bool.{Bool, true, false, not, _&&_}
 use mathlib.Core.List.{List, [], _∷_, map}
-use lib.ListN.{take}
+use lib.ListN.{getD, take}
 use lib.Dec.{eqb}
 use Rattle.base.specs.Choice.{pick}
 use Rattle.table.specs.declared.Task.{Task}
@@ -67,6 +73,32 @@ cases =
     ∷ forceCase (plan []) (refused 1 1 0) []  -- l
     ∷ []
 
+-- each is a marked case but for one number: yes and no, forced count, passes, a bound, their number; number,
+-- place and passes of a refusal; given for refused
+unfoldable pub wrongCases : List Case
+wrongCases =
+    testCase (pair 1 12 1) saysYes (4 ∷ 0 ∷ [])
+    ∷ testCase (pair 1 12 1) (given false 1 0) (4 ∷ 0 ∷ [])
+    ∷ testCase (pair 1 12 1) (given false 0 1) (4 ∷ 0 ∷ [])
+    ∷ testCase (pair 1 12 1) saysNo (4 ∷ 1 ∷ [])
+    ∷ testCase (pair 1 12 1) saysNo (5 ∷ 0 ∷ [])
+    ∷ testCase (pair 1 12 1) saysNo (4 ∷ [])
+    ∷ testCase (pair 1 12 1) saysNo (4 ∷ 0 ∷ 0 ∷ [])
+    ∷ forceCase (pair 1 12 1) (given true 1 3) (12 ∷ 17 ∷ [])
+    ∷ forceCase (pair 1 12 1) (given true 2 2) (12 ∷ 17 ∷ [])
+    ∷ forceCase (pair 1 12 1) (given false 2 3) (12 ∷ 17 ∷ [])
+    ∷ forceCase (pair 1 12 1) (given true 2 3) (12 ∷ 18 ∷ [])
+    ∷ forceCase (pair 1 12 1) (refused 14 2 3) (12 ∷ 17 ∷ [])
+    ∷ forceCase (pair 1 11 0) (refused 13 1 2) []
+    ∷ forceCase (pair 1 11 0) (refused 14 2 2) []
+    ∷ forceCase (pair 1 11 0) (refused 14 1 3) []
+    ∷ forceCase (pair 1 11 0) (refused 14 1 2) (0 ∷ [])
+    ∷ forceCase (pair 1 11 0) (given true 1 2) []
+    ∷ forceCase (plan []) (refused 2 1 0) []
+    ∷ forceCase (plan []) (refused 1 2 0) []
+    ∷ forceCase (plan []) (refused 1 1 1) []
+    ∷ []
+
 -- whether two answers, and two lists of numbers, are the same
 unfoldable pub sameAnswer : Answer → Answer → Bool
 sameAnswer (Given v) (Given w) =
@@ -94,3 +126,11 @@ right c =
 unfoldable pub every : List Case → Bool
 every [] = true
 every (c ∷ cs) = right c && every cs
+
+unfoldable pub noneOf : List Case → Bool
+noneOf [] = true
+noneOf (c ∷ cs) = not (right c) && noneOf cs
+
+-- the case at a place of a list; past its end one that is not right
+abbrev pub caseAt : List Case → ℕ → Case
+caseAt cs i = getD cs i (testCase (plan []) saysYes [])

@@ -1,7 +1,8 @@
-pub mod Demand1
-pub mod Demand2
-pub mod Demand3
+pub mod Words
+pub mod Algorithm2
+pub mod Results
+pub mod Below
+pub mod Cases
 pub mod Meaning
 pub mod NeverHurts
-pub mod Cases
 pub mod Wrong

@@ -1,28 +1,36 @@
--- What a pass means: no deadline is missed in any schedule that follows the rules of the crate `schedule`.
+-- The table of document 01's case b, and when a system of the crate `schedule` is that of a table.
+--
+--   case b, one core, FP, (12,4,D,P) (24,9,18,flag)      pairTable D flag; case b itself: pairTable 12 1
+--   s and s′ have the same tasks, cores and policy       SameSystem s s′
+--   every job needs its C, the first gap is T + 5        fullRelease t, fullNeed t
+--
 -- Assumes nothing.
-use Prim.Native.Nat.{ℕ, _≤_}
-use mathlib.Core.Bool.{true}
-use mathlib.Core.List.{List}
-use lib.ListN.{length}
-use Rattle.base.specs.Rows.{at}
-use Rattle.schedule.specs.Promise.{Promise}
+use Prim.Native.Nat.{ℕ, _+_, _*_, _<_}
+use mathlib.Core.Path.{_≡_}
+use mathlib.Core.List.{[], _∷_}
+use Rattle.base.specs.Choice.{orElse}
+use Rattle.model.specs.Bound.{System}
 use Rattle.table.specs.declared.Table.{Table}
-use Rattle.table.specs.Table.{systemOf, flagsOf}
-use Rattle.planner.specs.Answers.{given}
-use Rattle.planner.specs.declared.Job.the-variants.{Test, Force}
-use Rattle.planner.specs.declared.Record.{Record}
-use Rattle.planner.specs.Calls.{Call, Answered, Sends}
-use Rattle.claims.specs.Demand2.{flagsIn, boundsIn}
+use Rattle.table.specs.Table.{systemOf}
+use Rattle.planner.specs.Calls.{listTable}
+use Rattle.claims.specs.Cases.{task}
 
--- If forcing answers yes, then in every schedule of the table with the flags in the records that follows the
--- rules, each job of task k is done within the bound in record k, and so by its deadline.
-abbrev pub PassMeans : Type 0
-PassMeans = (c : Call) (t : Table) → Sends c t → (old : List Record) → t .n ≤ length old
-    → (f p : ℕ) (new : List Record) → Answered c Force old (given true f p) new
-    → Promise (systemOf t) (flagsIn new) (boundsIn new)
+-- with D of task 1 and the flag of task 2 as parameters: the cases a to d
+abbrev pub pairTable : ℕ → ℕ → Table
+pairTable d f = listTable 1 1 (task 12 4 d 1 ∷ task 24 9 18 f ∷ [])
 
--- If the test answers yes, the same holds of the table as sent.
-abbrev pub YesMeans : Type 0
-YesMeans = (c : Call) (t : Table) → Sends c t → (old : List Record) → t .n ≤ length old
-    → (new : List Record) → Answered c Test old (given true 0 0) new
-    → Promise (systemOf t) (at (flagsOf t)) (boundsIn new)
+pub record SameSystem (s s′ : System) : Type 0 where
+  pub policy : s .policy ≡ s′ .policy
+  pub cores : s .cores ≡ s′ .cores
+  pub count : s .count ≡ s′ .count
+  pub T : (i : ℕ) → i < s .count → s .T i ≡ s′ .T i
+  pub C : (i : ℕ) → i < s .count → s .C i ≡ s′ .C i
+  pub D : (i : ℕ) → i < s .count → s .D i ≡ s′ .D i
+  pub S : (i : ℕ) → i < s .count → s .S i ≡ s′ .S i
+  pub higher : (k i : ℕ) → s .higher k i ≡ s′ .higher k i
+
+abbrev pub fullRelease : Table → ℕ → ℕ → ℕ
+fullRelease t i j = j * systemOf t .T i + orElse j 0 (λ _. 5)
+
+abbrev pub fullNeed : Table → ℕ → ℕ → ℕ
+fullNeed t i j = systemOf t .C i

@@ -1,48 +1,69 @@
--- Document 01, "What the promises have to say": six wrong forcers, each by what gives it away.
+-- Document 01, "What the promises have to say": six wrong forcers, as callers see a forcer. What gives each
+-- away is asked of legal tables with room alone, and of records only where it accepts, so that each class is
+-- as wide as its words.
+--
+--   document 01                                            here
+--   a forcer: a call and the caller's list go in,
+--   an answer and the list afterwards come out             Forcer, Reply
+--   it meets the promise of run_plan and run_tasks         MeetsPromise
+--   always refuses                                         AlwaysRefuses
+--   always gives one answer                                OneAnswer
+--   writes no record                                       WritesNothing
+--   forces in its first pass and copies old bounds         CopiesBounds
+--   forces all                                             ForcesAll
+--   a made-up pass count, whatever it is made from         MadeUpPasses
+--
 -- Assumes nothing.
 use Prim.Native.Nat.{ℕ, _<_}
 use mathlib.Core.Path.{_≡_}
-use mathlib.Core.List.{[], _∷_}
-use Rattle.base.specs.Rows.{at}
+use mathlib.Core.Bool.{true}
+use mathlib.Core.List.{List}
+use Rattle.model.specs.Bound.{bound}
 use Rattle.table.specs.declared.Table.{Table}
-use Rattle.table.specs.Table.{LegalTable}
-use Rattle.planner.specs.declared.Done.{Done}
-use Rattle.planner.specs.Answers.{refused, recordAt, valuesOf}
-use Rattle.planner.specs.Done.{tested, forceDone}
-use Rattle.planner.specs.Calls.{listTable}
-use Rattle.claims.specs.Cases.{task}
+use Rattle.table.specs.Table.{systemOf}
+use Rattle.planner.specs.declared.Answer.{Answer}
+use Rattle.planner.specs.declared.Job.the-variants.{Force}
+use Rattle.planner.specs.declared.Record.{Record}
+use Rattle.planner.specs.Answers.{given, refused, valuesOf}
+use Rattle.planner.specs.Done.{sent}
+use Rattle.planner.specs.Calls.{Call, Answered}
+use Rattle.claims.specs.Words.{Asks, flagsIn, boundsIn}
 
--- a forcer answers a table, with records; it meets the promise if it answers every legal table as promised
+pub record Reply : Type 0 where
+  pub answer : Answer
+  pub list : List Record
+
 abbrev pub Forcer : Type 0
-Forcer = Table → Done
+Forcer = Call → List Record → Reply
 
 abbrev pub MeetsPromise : Forcer → Type 0
-MeetsPromise f = (t : Table) → LegalTable t → f t ≡ forceDone t
+MeetsPromise f = (c : Call) (old : List Record) → Answered c Force old (f c old .answer) (f c old .list)
 
--- the tables of the cases b (and a), c and d
-abbrev pub pairTable : ℕ → ℕ → Table
-pairTable d f = listTable 1 1 (task 12 4 d 1 ∷ task 24 9 18 f ∷ [])
-
--- one that always refuses
 abbrev pub AlwaysRefuses : Forcer → Type 0
-AlwaysRefuses f = (t : Table) → (n : ℕ) × ((l : ℕ) × ((p : ℕ) × (f t .answer ≡ refused n l p)))
+AlwaysRefuses f = (c : Call) (t : Table) (old : List Record) → Asks c t old
+    → (number : ℕ) × ((place : ℕ) × ((passes : ℕ) × (f c old .answer ≡ refused number place passes)))
 
--- one that always gives one answer
-abbrev pub SameAnswer : Forcer → Type 0
-SameAnswer f = (t u : Table) → f t .answer ≡ f u .answer
+abbrev pub OneAnswer : Forcer → Type 0
+OneAnswer f = (c c′ : Call) (t t′ : Table) (old old′ : List Record) → Asks c t old → Asks c′ t′ old′
+    → f c old .answer ≡ f c′ old′ .answer
 
--- one that writes no record
-abbrev pub NoRecord : Forcer → Type 0
-NoRecord f = (t : Table) → f t .count ≡ 0
+abbrev pub WritesNothing : Forcer → Type 0
+WritesNothing f = (c : Call) (t : Table) (old : List Record) → Asks c t old → f c old .list ≡ old
 
--- one that forces in its first pass and then copies the bounds of the table as sent
-abbrev pub OldBounds : Forcer → Type 0
-OldBounds f = (t : Table) (k : ℕ) → k < t .n → recordAt (f t .recs) k .bound ≡ at (tested t) k
+-- a task that has a bound as sent is given that one
+abbrev pub CopiesBounds : Forcer → Type 0
+CopiesBounds f = (c : Call) (t : Table) (old : List Record) → Asks c t old
+    → (forced passes : ℕ) → f c old .answer ≡ given true forced passes
+    → (k : ℕ) → k < t .n → 0 < bound (systemOf t) (sent t) k
+    → boundsIn (f c old .list) k ≡ bound (systemOf t) (sent t) k
 
--- one that forces all
 abbrev pub ForcesAll : Forcer → Type 0
-ForcesAll f = (t : Table) (k : ℕ) → k < t .n → recordAt (f t .recs) k .flag ≡ 0
+ForcesAll f = (c : Call) (t : Table) (old : List Record) → Asks c t old
+    → (forced passes : ℕ) → f c old .answer ≡ given true forced passes
+    → (k : ℕ) → k < t .n → flagsIn (f c old .list) k ≡ 0
 
--- one with a made-up pass count
+-- from the numbers of cores and tasks and the policy, say, without a test
 abbrev pub MadeUpPasses : Forcer → Type 0
-MadeUpPasses f = (t u : Table) → valuesOf (t .n) (f t .answer) .passes ≡ valuesOf (u .n) (f u .answer) .passes
+MadeUpPasses f = (count : ℕ → ℕ → ℕ → ℕ)
+    × ((c : Call) (t : Table) (old : List Record) → Asks c t old
+    → valuesOf (t .n) (f c old .answer) .passes ≡ count (t .cores) (t .policy) (t .n))

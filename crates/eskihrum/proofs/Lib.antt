@@ -1,3 +1,4 @@
 pub mod CodedLaws
 pub mod ToldUnique
 pub mod Unique
+pub mod CodeLaws

@@ -10,17 +10,20 @@ use Prim.Native.Nat.{ℕ, _≤_}
 use mathlib.Core.Path.{_≡_}
 use mathlib.Core.List.{List, [], _++_}
 use lib.ListN.{length, take}
+use denote.Ref.{now}
 use Rattle.page.specs.Words.{word}
-use Rattle.listing.specs.Listing.{listingOf, Listed}
+use Rattle.base.proofs.Unique.{OnlyWith}
+use Rattle.listing.proofs.write_listing.Kinds as listing
+use Rattle.listing.proofs.write_listing.Reads as listing-reads
+use Rattle.listing.specs.Listing.{listingOf}
 use Rattle.listing.proofs.ListedLaws.{listed-only}
 use Rattle.listing.proofs.AllFit.{listing-fits}
 use Rattle.lines.proofs.Theorems.{reading-settled}
 use Rattle.planner.specs.Done.{planDone}
 use Rattle.listing.proofs.Samples as samples
 
-pub listing-only : {text old a b : List ℕ} {r r′ : ℕ} → Listed text old r a → Listed text old r′ b
-    → (r ≡ r′) × (a ≡ b)
-listing-only = listed-only
+pub listing-only : OnlyWith 2 listing.ps listing.r listing-reads.Post (λ κs s. now (s .1 .0))
+listing-only κs a x y s s′ p q = listed-only p q
 
 pub listing-room : (text : List ℕ) → length (listingOf text) ≤ 2048
 listing-room = listing-fits

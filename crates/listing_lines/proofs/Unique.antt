@@ -1,20 +1,25 @@
--- Any two results that a promise of this crate allows are equal: the next place and the buffer's bytes then,
--- or the load.
+-- Any two results that a promise of this crate allows are equal: the next place and the buffer's bytes then.
 -- Assumes nothing.
-use Prim.Native.Nat.{ℕ}
-use mathlib.Core.List.{List}
-use Rattle.page.proofs.Unique.{Only, only}
-use Rattle.listing_lines.specs.declared.TaskRow.{TaskRow}
-use Rattle.listing_lines.specs.Lines.{lineOne, taskLineText, lastLine, refusalLine}
+use denote.Ref.{now}
+use Rattle.buffer.proofs.PutLaws as laws
+use Rattle.base.proofs.Unique.{OnlyWith}
+use Rattle.listing_lines.proofs.put_line_one.Kinds as line-one
+use Rattle.listing_lines.proofs.put_line_one.Reads as line-one-reads
+use Rattle.listing_lines.proofs.put_task.Kinds as task
+use Rattle.listing_lines.proofs.put_task.Reads as task-reads
+use Rattle.listing_lines.proofs.put_last.Kinds as last
+use Rattle.listing_lines.proofs.put_last.Reads as last-reads
+use Rattle.listing_lines.proofs.put_refusal.Kinds as refusal
+use Rattle.listing_lines.proofs.put_refusal.Reads as refusal-reads
 
-pub put-line-one-only : (s : List ℕ) (at policy cores n : ℕ) → Only s at (lineOne policy cores n)
-put-line-one-only s at policy cores n = only s at (lineOne policy cores n)
+pub put-line-one-only : OnlyWith 1 line-one.ps line-one.r line-one-reads.Post (λ κs s. now (s .0))
+put-line-one-only κs a x y s s′ p q = laws.put-only p q
 
-pub put-task-only : (s : List ℕ) (at : ℕ) (row : TaskRow) → Only s at (taskLineText row)
-put-task-only s at row = only s at (taskLineText row)
+pub put-task-only : OnlyWith 1 task.ps task.r task-reads.Post (λ κs s. now (s .0))
+put-task-only κs a x y s s′ p q = laws.put-only p q
 
-pub put-last-only : (s : List ℕ) (at total forced passes : ℕ) → Only s at (lastLine total forced passes)
-put-last-only s at total forced passes = only s at (lastLine total forced passes)
+pub put-last-only : OnlyWith 1 last.ps last.r last-reads.Post (λ κs s. now (s .0))
+put-last-only κs a x y s s′ p q = laws.put-only p q
 
-pub put-refusal-only : (s : List ℕ) (at number place passes : ℕ) → Only s at (refusalLine number place passes)
-put-refusal-only s at number place passes = only s at (refusalLine number place passes)
+pub put-refusal-only : OnlyWith 1 refusal.ps refusal.r refusal-reads.Post (λ κs s. now (s .0))
+put-refusal-only κs a x y s s′ p q = laws.put-only p q

@@ -1,29 +1,26 @@
 -- Any two results that a promise of this crate allows are equal: the next place, and the buffer's bytes then.
--- Each promise is `Put` with the function's word, so that each theorem is the law `put-only` at that word.
+-- Each promise is `Put` with the function's word; `OnlyWith` says it of the promise as a caller reads it.
 -- Assumes nothing.
-use Prim.Native.Nat.{ℕ}
-use mathlib.Core.Path.{_≡_}
-use mathlib.Core.List.{List, _++_}
-use Rattle.buffer.specs.Put.{Put}
-use Rattle.page.specs.Decimal.{decimal}
-use Rattle.page.specs.Words.{either}
+use denote.Ref.{now}
+use Rattle.base.proofs.Unique.{OnlyWith}
 use Rattle.buffer.proofs.PutLaws as laws
+use Rattle.page.proofs.put.Kinds as put
+use Rattle.page.proofs.put.Reads as put-reads
+use Rattle.page.proofs.put_number.Kinds as put-number
+use Rattle.page.proofs.put_number.Reads as put-number-reads
+use Rattle.page.proofs.put_field.Kinds as put-field
+use Rattle.page.proofs.put_field.Reads as put-field-reads
+use Rattle.page.proofs.put_either.Kinds as put-either
+use Rattle.page.proofs.put_either.Reads as put-either-reads
 
--- the buffer s and the place at allow one result for the word w
-abbrev pub Only : List ℕ → ℕ → List ℕ → Type 0
-Only s at w = (r r′ : ℕ) (a b : List ℕ) → Put s at w r a → Put s at w r′ b → (r ≡ r′) × (a ≡ b)
+pub put-only : OnlyWith 2 put.ps put.r put-reads.Post (λ κs s. now (s .0))
+put-only κs a x y s s′ p q = laws.put-only p q
 
-pub only : (s : List ℕ) (at : ℕ) (w : List ℕ) → Only s at w
-only s at w r r′ a b p q = laws.put-only p q
+pub put-number-only : OnlyWith 1 put-number.ps put-number.r put-number-reads.Post (λ κs s. now (s .0))
+put-number-only κs a x y s s′ p q = laws.put-only p q
 
-pub put-only : (s : List ℕ) (at : ℕ) (w : List ℕ) → Only s at w
-put-only = only
+pub put-field-only : OnlyWith 2 put-field.ps put-field.r put-field-reads.Post (λ κs s. now (s .0))
+put-field-only κs a x y s s′ p q = laws.put-only p q
 
-pub put-number-only : (s : List ℕ) (at n : ℕ) → Only s at (decimal n)
-put-number-only s at n = only s at (decimal n)
-
-pub put-field-only : (s : List ℕ) (at : ℕ) (w : List ℕ) (n : ℕ) → Only s at (w ++ decimal n)
-put-field-only s at w n = only s at (w ++ decimal n)
-
-pub put-either-only : (s : List ℕ) (at n : ℕ) (a b : List ℕ) → Only s at (either n a b)
-put-either-only s at n a b = only s at (either n a b)
+pub put-either-only : OnlyWith 3 put-either.ps put-either.r put-either-reads.Post (λ κs s. now (s .0))
+put-either-only κs a x y s s′ p q = laws.put-only p q

@@ -7,3 +7,4 @@ pub mod AfterLaws
 pub mod StageLaws
 pub mod Theorems
 pub mod Unique
+pub mod ValueLaws
