@@ -43,7 +43,7 @@ pub fn catching() -> Vec<(&'static str, Table)> {
         ("edf-cap-of-own-deadline", table(EDF, 1, &[(3, 1, 3, 'P'), (2, 1, 2, 'P')])),
         ("fp-place-not-deadline", table(FP, 1, &[(4, 1, 3, 'P'), (2, 1, 2, 'P')])),
         ("fp-preemptive-does-not-block", table(FP, 1, &[(3, 1, 1, 'N'), (3, 2, 3, 'P')])),
-        ("total-of-rounded-loads", table(EDF, 2, &[(3, 2, 2, 'P'), (3, 2, 2, 'P')])),
+        ("total-of-rounded-loads", table(EDF, 3, &[(3, 1, 3, 'P'), (3, 1, 3, 'P'), (3, 1, 3, 'P')])),
     ]
 }
 

@@ -36,7 +36,7 @@ fn accepted(table: &Table, answer: &Forced) -> String {
     for (k, (task, record)) in table.tasks.iter().zip(&answer.records).enumerate() {
         let flag = if record.flag == 1 { "P" } else { "N" };
         let mark = if record.forced == 1 { "forced" } else { "given" };
-        let load = 1000 * task.cost / task.period;
+        let load = (1000 * task.cost).div_ceil(task.period);
         total += load;
         text += &format!("task {} {flag} {mark} bound {}", k + 1, record.bound);
         text += &format!(" deadline {} load {load}\n", task.deadline);

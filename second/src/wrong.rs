@@ -69,7 +69,8 @@ pub enum Slip {
     FlagsAsSentShown,
     LastPassUncounted,
     PassesAreForcedCount,
-    LoadRoundedUp,
+    LoadRoundedDown,
+    LoadOneMore,
     LoadOfDeadline,
     TotalOfExactLoads,
     // Slips that change nothing in this edition; they stand here so that nobody looks for a table.
@@ -147,7 +148,8 @@ pub const WRONG: &[Wrong] = &[
     wrong(Slip::FlagsAsSentShown, "flags-as-sent-shown", "shows the flags as sent"),
     wrong(Slip::LastPassUncounted, "last-pass-uncounted", "leaves the last test out of the passes"),
     wrong(Slip::PassesAreForcedCount, "passes-are-forced-count", "gives forced count + 1 as passes"),
-    wrong(Slip::LoadRoundedUp, "load-rounded-up", "rounds loads up"),
+    wrong(Slip::LoadRoundedDown, "load-rounded-down", "rounds loads down"),
+    wrong(Slip::LoadOneMore, "load-one-more", "adds one to a load that is whole already"),
     wrong(Slip::LoadOfDeadline, "load-of-deadline", "divides by D for the load"),
     wrong(Slip::TotalOfExactLoads, "total-of-exact-loads", "rounds the total load only once"),
 ];
@@ -476,9 +478,10 @@ fn end(
 
 fn load(slip: Slip, task: &Task) -> u32 {
     match slip {
-        Slip::LoadRoundedUp => (1000 * task.cost).div_ceil(task.period),
-        Slip::LoadOfDeadline => 1000 * task.cost / task.deadline,
-        _ => 1000 * task.cost / task.period,
+        Slip::LoadRoundedDown => 1000 * task.cost / task.period,
+        Slip::LoadOneMore => 1000 * task.cost / task.period + 1,
+        Slip::LoadOfDeadline => (1000 * task.cost).div_ceil(task.deadline),
+        _ => (1000 * task.cost).div_ceil(task.period),
     }
 }
 
@@ -486,7 +489,7 @@ fn load(slip: Slip, task: &Task) -> u32 {
 fn total(slip: Slip, table: &Table) -> u32 {
     if slip == Slip::TotalOfExactLoads {
         let part = |task: &Task| ((1000 * task.cost as u128) << 40) / task.period as u128;
-        return (table.tasks.iter().map(part).sum::<u128>() >> 40) as u32;
+        return table.tasks.iter().map(part).sum::<u128>().div_ceil(1 << 40) as u32;
     }
     table.tasks.iter().map(|task| load(slip, task)).sum()
 }

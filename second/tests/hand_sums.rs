@@ -125,9 +125,9 @@ fn the_listing_of_the_document() {
     assert_eq!(read(text.as_bytes()), Ok(case_a()));
     assert_eq!(write(&case_a()), text.as_bytes());
     let expected = "plan FP cores 1 tasks 2\n\
-                    task 1 N forced bound 12 deadline 12 load 333\n\
+                    task 1 N forced bound 12 deadline 12 load 334\n\
                     task 2 N forced bound 17 deadline 18 load 375\n\
-                    total load 708 forced 2 passes 3\n";
+                    total load 709 forced 2 passes 3\n";
     for way in WAYS {
         assert_eq!(listing(text.as_bytes(), way), expected);
     }

@@ -19,6 +19,8 @@ use Rattle.table.specs.Table.{LegalTable, systemOf, flagsOf}
 use Rattle.table.specs.declared.Checked.the-variants.{Fine}
 use Rattle.table.specs.Checks.{faulty}
 use Rattle.table.specs.Faults.{Within}
+use Rattle.table.specs.Load.{Covers}
+use Rattle.table.proofs.LoadLaws as loads
 use Rattle.lines.specs.Reads.{numberOf, placeOf}
 use Rattle.lines.specs.Writes.{ZerosPast, planText}
 use Rattle.planner.specs.declared.Answer.{Answer}
@@ -181,6 +183,11 @@ full-asked = meaning.full-asked
 pub same-bound : (t u : Table) (k : ℕ) → LegalTable t → DifferBelow t u k
     → bound (systemOf t) (at (flagsOf t)) k ≡ bound (systemOf u) (at (flagsOf u)) k
 same-bound t u k legal d = lower.same-bound d legal
+
+-- DOCUMENT 02, WISH 2. No load of a table that is sent is below the exact one, nor is their total; and no
+-- smaller load would do.
+pub never-flatters : (c : Call) (t : Table) → Sends c t → Covers t
+never-flatters c t s = loads.loads-cover t (calls.sends-legal s)
 
 -- The marked cases, by a single statement over one list of them; none of the wrong ones is right.
 pub marked : T (every cases)

@@ -36,8 +36,8 @@ pub example : listingOf
     (word "01010102FB\n"
     ++ (word "02010000000C000000040000000CE1\n" ++ word "0201000000180000000900000012CA\n"))
     ≡ word "plan FP cores 1 tasks 2\n"
-    ++ (word "task 1 N forced bound 12 deadline 12 load 333\n"
-    ++ (word "task 2 N forced bound 17 deadline 18 load 375\n" ++ word "total load 708 forced 2 passes 3\n"))
+    ++ (word "task 1 N forced bound 12 deadline 12 load 334\n"
+    ++ (word "task 2 N forced bound 17 deadline 18 load 375\n" ++ word "total load 709 forced 2 passes 3\n"))
 example = samples.example
 
 pub empty : listingOf [] ≡ word "refused 1 place 1\n"

@@ -113,12 +113,12 @@ pub fn check_table(t: Table) -> Checked
     Checked::Fine
 }
 
-// The load of a task.
+// The load of a task, rounded up.
 pub fn task_load(cost: u32, period: u32) -> u32
-    requires { ⌜ (cost ≤ 1000000) × (0 < period) ⌝ }
+    requires { ⌜ (cost ≤ 1000000) × (0 < period) × (period ≤ 1000000) ⌝ }
     ensures { λ r. ⌜ r ≡ load cost period ⌝ }
 {
-    1000 * cost / period
+    (1000 * cost + (period - 1)) / period
 }
 
 // The sum of the tasks' loads.

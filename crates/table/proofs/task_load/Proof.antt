@@ -12,4 +12,4 @@ returns c = refl
 pub task-load-spec : {M : Type 1} → statement M
 task-load-spec =
     tie.close
-    (tie.spec (λ c. search needs) (λ c. search needs) returns)
+    (tie.spec (λ c. search needs) (λ c. search needs) (λ c. search needs) (λ c. search needs) returns)
