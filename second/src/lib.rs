@@ -21,5 +21,7 @@ pub mod reading_cases;
 pub mod tables;
 pub mod textbook;
 pub mod texts;
+pub mod writing;
+pub mod writing_cases;
 pub mod wrong;
 pub mod wrong_reading;

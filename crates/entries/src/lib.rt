@@ -1,18 +1,20 @@
-// The planner's two entries: a plan, or a list of tasks, is tested or forced, and the records go to the
-// caller's list. Neither asks anything of its caller. The work is done by value in `planner`; what is here
-// moves records and tasks.
+// The planner's entries over lent lists: a plan, or a list of tasks, is tested or forced, and the records go
+// to the caller's list; a list of tasks is written as a plan. None asks anything of its caller. The work is
+// done by value in `planner` and `writer`; what is here moves records and tasks.
 ghost use mathlib.Core.Path.{_≡_};
 ghost use Prim.Native.Nat.{_≤_, _<_, min};
 ghost use lib.ListN.{length, set, replicate};
 ghost use Rattle.table.specs.Table.{noTask};
 ghost use Rattle.planner.specs.Answers.{recordAt};
 ghost use Rattle.planner.specs.Done.{loaded, listAfter};
-ghost use Rattle.planner.specs.Calls.{Answered, plan, tasks as list};
+ghost use Rattle.planner.specs.Calls.{Answered, plan, tasks as list, listTable};
+ghost use Rattle.writer.specs.Written.{WroteAs};
 use planner::Answer;
 use planner::Done;
 use planner::Job;
 use planner::Record;
 use table::Task;
+use writer::Written;
 
 // What `put_done` asks of an answer.
 fn nth(d: Done, i: usize) -> Record
@@ -114,4 +116,15 @@ pub fn run_tasks(
     let all = load_tasks(tasks);
     let d = planner::list_done(cores, policy, n, all, job, room);
     put_done(records, d)
+}
+
+// Cores, policy and a list of tasks, whatever their numbers are, as a plan from the place `at` of the buffer
+// on. A refusal writes nothing; else the bytes before the place and those after the end stay.
+pub fn write_tasks(cores: u32, policy: u32, tasks: &[Task], out: &mut [u8], at: usize) -> Written
+    ensures { λ r. ⌜ WroteAs (listTable cores policy (now (tasks .entry))) (now (out .entry)) at r
+        (now (out .exit)) ⌝ }
+{
+    let n = tasks.len();
+    let all = load_tasks(tasks);
+    writer::write_list(cores, policy, n, all, out, at)
 }

@@ -28,7 +28,7 @@ list-last f i zero = ap (λ k. f k ∷ []) (omega arith)
 list-last f i (suc n) =
     ap (λ r. f i ∷ r) (list-last f (suc i) n ∙ ap (λ k. listFrom f (suc i) n ++ (f k ∷ [])) (omega arith))
 
-sum-append : (xs bs : List ℕ) → bytesSum (xs ++ bs) ≡ bytesSum xs + bytesSum bs
+pub sum-append : (xs bs : List ℕ) → bytesSum (xs ++ bs) ≡ bytesSum xs + bytesSum bs
 unfolding bytesSum
 sum-append [] bs = omega arith
 sum-append (x ∷ xs) bs = omega (arith, sum-append xs bs)
@@ -47,7 +47,7 @@ bytes-append (x ∷ xs) b h l = (h .0, bytes-append xs b (h .1) l)
 
 -- Written bytes.
 
-text-length : (bs : List ℕ) → length (bytesText bs) ≡ 2 * length bs
+pub text-length : (bs : List ℕ) → length (bytesText bs) ≡ 2 * length bs
 unfolding bytesText
 text-length [] = refl
 text-length (b ∷ bs) = omega (arith, text-length bs)

@@ -36,19 +36,19 @@ pub record Short (t : Table) (rs : List Record) (forced passes : ℕ) : Type 0 w
   pub soon : passes ≤ 33
 
 -- numbers up to 99, 9,999, 99,999, 9,999,999 and 2 ^ 32 - 1
-two : (n : ℕ) → n < 100 → length (decimal n) ≤ 2
+pub two : (n : ℕ) → n < 100 → length (decimal n) ≤ 2
 unfolding tens
 two n h = decimal-short n 1 h
 
-four : (n : ℕ) → n < 10000 → length (decimal n) ≤ 4
+pub four : (n : ℕ) → n < 10000 → length (decimal n) ≤ 4
 unfolding tens
 four n h = decimal-short n 3 h
 
-five : (n : ℕ) → n < 100000 → length (decimal n) ≤ 5
+pub five : (n : ℕ) → n < 100000 → length (decimal n) ≤ 5
 unfolding tens
 five n h = decimal-short n 4 h
 
-seven : (n : ℕ) → n < 10000000 → length (decimal n) ≤ 7
+pub seven : (n : ℕ) → n < 10000000 → length (decimal n) ≤ 7
 unfolding tens
 seven n h = decimal-short n 6 h
 
@@ -56,11 +56,12 @@ ten : (n : ℕ) → n < 4294967296 → length (decimal n) ≤ 10
 unfolding tens
 ten n h = decimal-short n 9 (omega arith)
 
-either-short : (k n : ℕ) (a b : List ℕ) → length a ≤ k → length b ≤ k → length (either n a b) ≤ k
+pub either-short : (k n : ℕ) (a b : List ℕ) → length a ≤ k → length b ≤ k → length (either n a b) ≤ k
 either-short k zero a b p q = p
 either-short k (suc n) a b p q = q
 
-lines-cap : (f : ℕ → List ℕ) (b n : ℕ) → ((i : ℕ) → i < n → length (f i) ≤ b) → length (linesTo f n) ≤ n * b
+pub lines-cap : (f : ℕ → List ℕ) (b n : ℕ) → ((i : ℕ) → i < n → length (f i) ≤ b)
+    → length (linesTo f n) ≤ n * b
 unfolding linesTo
 lines-cap f b zero h = omega arith
 lines-cap f b (suc n) h =

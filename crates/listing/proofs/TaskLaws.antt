@@ -20,7 +20,8 @@ use Rattle.listing_lines.specs.Lines.{taskLineText}
 use Rattle.listing.specs.Listing.{lineAt, linesTo}
 
 -- more places are at least as long
-lines-grow : (f : ℕ → List ℕ) (i n : ℕ) → i < n → length (linesTo f i) + length (f i) ≤ length (linesTo f n)
+pub lines-grow : (f : ℕ → List ℕ) (i n : ℕ) → i < n
+    → length (linesTo f i) + length (f i) ≤ length (linesTo f n)
 unfolding linesTo
 lines-grow f i zero lt = absurd (let z : ⊥ = omega arith in z)
 lines-grow f i (suc n) lt =

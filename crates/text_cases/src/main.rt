@@ -1,7 +1,8 @@
-// Many texts in one run. A case is a digit for what is asked (0 the reading, 1 the listing after forcing),
-// the length of its text in four decimal digits, a 0A, and the text. The answers go to standard output, one
-// after the other.
+// Many texts in one run. A case is a digit for what is asked (0 the reading, 1 the listing after forcing, 2
+// the writing of a table, 3 the plan as changed), the length of its text in four decimal digits, a 0A, and
+// the text. The answers go to standard output, one after the other.
 mod reading;
+mod writing;
 
 ghost use Prim.Native.Nat.{_≤_};
 ghost use lib.ListN.{length};
@@ -51,6 +52,12 @@ fn answer(asked: u8, text: &[u8]) -> bool {
     }
     if asked == 49 {
         return print(text);
+    }
+    if asked == 50 {
+        return writing::say(text);
+    }
+    if asked == 51 {
+        return writing::say_changed(text);
     }
     io::write_all(2, b"text_cases: a case does not say what is asked\n");
     false

@@ -1,0 +1,4 @@
+pub mod ChangeLaws
+pub mod Unique
+pub mod SettledLaws
+pub mod Theorems

@@ -1,0 +1,4 @@
+pub mod PartLaws
+pub mod PlanLaws
+pub mod Unique
+pub mod Theorems

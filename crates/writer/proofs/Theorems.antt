@@ -1,0 +1,242 @@
+-- What writing is, over its promise: each theorem states one sentence of document 02, Wish 1.
+--
+--   document 02                                                       theorem
+--   reading what was written gives the same table                     read-back, cleared-same
+--   writing what was read gives the same bytes                        write-back, read-fits
+--   5 to 11, then 16, each exactly when its words hold; else the end  way-exact
+--   16 exactly when                                                   sixteen-exact
+--   nothing is written where it refuses                               refused-stays
+--   bytes before the start and after the end stay                     before-stays, after-stays, same-length
+--   the end lies within the buffer                                    end-within
+--
+-- Assumes nothing.
+use Prim.Native.Nat.{ℕ, zero, suc, _+_, _-_, _≤_, _<_}
+use native.Mathlib.Omega.{arith}
+use mathlib.Core.Path.{_≡_, refl, sym, ap, ap₂, subst, _∙_}
+use mathlib.Core.Bool.{Bool, true, false}
+use mathlib.Core.Logic.{_↔_, _⊎_, ⊎-elim}
+use mathlib.Core.List.{List, _++_}
+use lib.Dec.{ltb}
+use lib.ListN.{length, take, drop, List·getD-eq-default}
+use borrow.Author.Tests.{lt-ltb, le-ltb, ltb-true, ltb-false}
+use Rattle.base.specs.Rows.{row}
+use Rattle.base.proofs.RowLaws.{row-at, row-past, row-length, row-is}
+use Rattle.table.specs.declared.Task.{Task}
+use Rattle.table.specs.declared.Table.{Table}
+use Rattle.table.specs.declared.Refusal.{Refusal}
+use Rattle.table.specs.Table.{noTask, taskAt, LegalTask, LegalTable}
+use Rattle.table.specs.Faults.{TableWrong, in-head, in-task, HeadWrong, cores, policy, count}
+use Rattle.table.specs.Faults.{TaskWrong, flag, period, deadline, cost}
+use Rattle.table.proofs.TableLaws.{legal-fine, fault-checked, table-cases}
+use Rattle.frames.specs.Digits.{raised}
+use Rattle.frames.specs.Text.{lineText}
+use Rattle.frames.proofs.DigitLaws.{raised-length}
+use Rattle.lines.specs.Form.{form1}
+use Rattle.lines.specs.Reads.{accepted, readOf}
+use Rattle.lines.specs.Writes.{taskBytes, tasksText, textBy, planText, headBytes, ZerosPast}
+use Rattle.lines.proofs.Theorems.{reading-exact, text-accepted}
+use Rattle.buffer.specs.Put.{Put}
+use Rattle.writer.proofs.PartLaws.{put-before, put-after, put-between}
+use Rattle.buffer.proofs.PutLaws.{put-length}
+use Rattle.writer.specs.declared.Written.{Written}
+use Rattle.writer.specs.declared.Written.the-variants.{End, Refused}
+use Rattle.writer.specs.Written.{
+  full,
+  textAnswer,
+  textAfter,
+  writtenAnswer,
+  bufferAfter,
+  valuesOf,
+  WroteAs,
+}
+use Rattle.writer.specs.Ways.{TooFull, past, short, Way, faulty, no-room, written, between, cleared}
+
+-- Which answer is given exactly when.
+
+not-end : {e : ℕ} {why : Refusal} → End e ≡ Refused why → ⊥
+not-end q = let z : _≡_ {A = ℕ} 0 1 = cc in omega arith
+
+too-full : (text : List ℕ) (len at : ℕ) → TooFull text len at → len < at + length text
+too-full text len at (past h) = omega arith
+too-full text len at (short l h) = omega arith
+
+full-too : (text : List ℕ) (len at : ℕ) → len < at + length text → TooFull text len at
+full-too text len at h = go (ltb len at) refl
+  where
+    go : (b : Bool) → ltb len at ≡ b → TooFull text len at
+    go true e = past (ltb-true len at e)
+    go false e = short (ltb-false len at e) (omega (arith, ltb-false len at e))
+
+module _ (t : Table) (len at : ℕ) where
+  legal-answer : LegalTable t → writtenAnswer t len at ≡ textAnswer (planText t) len at
+  unfolding writtenAnswer
+  legal-answer legal = rw (← legal-fine legal)
+
+  way-answer : {r : Written} → Way t len at r → r ≡ writtenAnswer t len at
+  unfolding writtenAnswer textAnswer
+  way-answer (faulty w) = rw (← fault-checked w)
+  way-answer (no-room legal f) =
+      rw (← legal-fine legal, lt-ltb len (at + length (planText t)) (too-full (planText t) len at f))
+  way-answer (written legal h) = rw (← legal-fine legal, le-ltb len (at + length (planText t)) h)
+
+  some-way : (r : Written) × Way t len at r
+  some-way = ⊎-elim (λ legal. by-room legal (ltb len (at + length (planText t))) refl)
+      (λ w. (_, faulty (w .1 .1))) (table-cases t)
+    where
+      by-room : LegalTable t → (b : Bool) → ltb len (at + length (planText t)) ≡ b
+          → (r : Written) × Way t len at r
+      by-room legal true e =
+          (_, no-room legal (full-too (planText t) len at (ltb-true len (at + length (planText t)) e)))
+      by-room legal false e = (_, written legal (ltb-false len (at + length (planText t)) e))
+
+  pub way-exact : (r : Written) → (r ≡ writtenAnswer t len at) ↔ Way t len at r
+  way-exact r = (
+    λ e. subst (Way t len at) (way-answer (some-way .1) ∙ sym e) (some-way .1),
+    way-answer,
+  )
+
+head-numbers : {h : Table} {f : ℕ} → HeadWrong h f → f < 16
+head-numbers (cores o) = omega arith
+head-numbers (policy a o) = omega arith
+head-numbers (count a b o) = omega arith
+
+task-numbers : {t : Task} {f : ℕ} → TaskWrong t f → f < 16
+task-numbers (flag o) = omega arith
+task-numbers (period a o) = omega arith
+task-numbers (deadline a b o) = omega arith
+task-numbers (cost a b d o) = omega arith
+
+table-numbers : {t : Table} {f p : ℕ} → TableWrong t f p → f < 16
+table-numbers (in-head w) = head-numbers w
+table-numbers (in-task i head l before w) = task-numbers w
+
+pub sixteen-exact : (t : Table) (len at : ℕ)
+    → (writtenAnswer t len at ≡ full) ↔ (LegalTable t × TooFull (planText t) len at)
+sixteen-exact t len at = (there, λ w. sym (way-exact t len at full .1 (no-room (w .0) (w .1))))
+  where
+    by-way : {r : Written} → Way t len at r → r ≡ full → LegalTable t × TooFull (planText t) len at
+    by-way (faulty {f} {p} w) e =
+        absurd (let z : f ≡ 16 = ap (λ x. valuesOf x .number) e in omega (arith, table-numbers w))
+    by-way (no-room legal f) e = (legal, f)
+    by-way (written legal h) e = absurd (not-end e)
+
+    there : writtenAnswer t len at ≡ full → LegalTable t × TooFull (planText t) len at
+    there e = by-way (way-exact t len at (writtenAnswer t len at) .0 refl) e
+
+-- The table with zeros past its last task has the same text.
+
+module _ (t : Table) (small : t .n ≤ 32) where
+  cleared-at : (i : ℕ) → i < t .n → taskAt (cleared t .tasks) i ≡ taskAt (t .tasks) i
+  unfolding cleared
+  cleared-at i l = row-at noTask (taskAt (t .tasks)) (t .n) i l small
+
+  cleared-zeros : ZerosPast (cleared t)
+  unfolding cleared
+  cleared-zeros = record {
+    places = row-length noTask (taskAt (t .tasks)) (t .n);
+    zeros = λ i l. by-place i l (ltb i 32) refl;
+  }
+    where
+      by-place : (i : ℕ) → t .n ≤ i → (b : Bool) → ltb i 32 ≡ b
+          → taskAt (row noTask (taskAt (t .tasks)) (t .n)) i ≡ noTask
+      by-place i l true e = row-past noTask (taskAt (t .tasks)) (t .n) i l (ltb-true i 32 e)
+      by-place i l false e =
+          List·getD-eq-default (row noTask (taskAt (t .tasks)) (t .n)) noTask
+          (omega (arith, ltb-false i 32 e, row-length noTask (taskAt (t .tasks)) (t .n)))
+
+  lines-same : (k : ℕ) → k ≤ t .n → tasksText form1 (t .tasks) k ≡ tasksText form1 (cleared t .tasks) k
+  unfolding tasksText
+  lines-same zero l = refl
+  lines-same (suc k) l =
+      ap₂ _++_ (lines-same k (omega arith))
+      (ap (λ x. lineText (taskBytes form1 x)) (sym (cleared-at k (omega arith))))
+
+  cleared-text : planText t ≡ planText (cleared t)
+  unfolding textBy headBytes cleared
+  cleared-text = ap (λ x. lineText (headBytes form1 t) ++ x) (lines-same (t .n) (omega arith))
+
+cleared-legal : (t : Table) → LegalTable t → LegalTable (cleared t)
+unfolding cleared
+cleared-legal t h = record {
+  some-core = h .some-core;
+  cores = h .cores;
+  policy = h .policy;
+  some-task = h .some-task;
+  count = h .count;
+  each = λ i l. subst LegalTask (sym (cleared-at t (h .count) i l)) (h .each i l);
+}
+
+pub cleared-same : (t : Table) → t .n ≤ 32 → ZerosPast t → cleared t ≡ t
+unfolding cleared
+cleared-same t small z =
+    ap (λ ts. record { cores = t .cores; policy = t .policy; n = t .n; tasks = ts })
+    (sym (row-is noTask (taskAt (t .tasks)) (t .n) (t .tasks) (z .places) (λ j l k. refl)
+    (λ j l k. z .zeros j l)))
+
+-- What the buffer holds.
+
+module _ {t : Table} {old : List ℕ} {at : ℕ} where
+  refused-way : {why : Refusal} → Way t (length old) at (Refused why) → bufferAfter t old at ≡ old
+  unfolding bufferAfter textAfter
+  refused-way (faulty w) = rw (← fault-checked w)
+  refused-way (no-room legal f) =
+      rw (← legal-fine legal, lt-ltb (length old) (at + length (planText t)) (too-full _ _ at f))
+
+  pub refused-stays : {why : Refusal} {new : List ℕ} → WroteAs t old at (Refused why) new → new ≡ old
+  refused-stays {why} w =
+      w .bytes ∙ refused-way (way-exact t (length old) at (Refused why) .0 (w .answer))
+
+  module _ {e : ℕ} {new : List ℕ} (w : WroteAs t old at (End e) new) where
+    -- an end place: the table is legal, its text has room, and stands there
+    pub record Ended : Type 0 where
+      pub legal : LegalTable t
+      pub put : Put old at (planText t) e new
+
+    by-way : {r : Written} → Way t (length old) at r → r ≡ End e → Ended
+    unfolding bufferAfter textAfter
+    by-way (faulty f) q = absurd (not-end (sym q))
+    by-way (no-room legal f) q = absurd (not-end (sym q))
+    by-way (written legal h) q = record {
+      legal = legal;
+      put = record {
+        fits = h;
+        next = sym (ap (λ w. valuesOf w .end) q);
+        bytes = w .bytes ∙ rw (← legal-fine legal, le-ltb (length old) (at + length (planText t)) h);
+      };
+    }
+
+    pub ended : Ended
+    ended = by-way (way-exact t (length old) at (End e) .0 (w .answer)) refl
+
+    pub end-within : e ≤ length new
+    end-within = omega (arith, ended .put .fits, ended .put .next, put-length (ended .put))
+
+    pub same-length : length new ≡ length old
+    same-length = put-length (ended .put)
+
+    pub before-stays : take at new ≡ take at old
+    before-stays = put-before (ended .put)
+
+    pub after-stays : drop e new ≡ drop e old
+    after-stays = put-after (ended .put)
+
+    -- reading what was written
+    pub written-text : between at e new ≡ planText t
+    written-text = put-between (ended .put)
+
+    pub read-back : readOf (between at e new) ≡ accepted (cleared t)
+    read-back =
+        ap readOf (written-text ∙ cleared-text t (ended .legal .count))
+        ∙ text-accepted (cleared t) (cleared-legal t (ended .legal)) (cleared-zeros t (ended .legal .count))
+
+    -- writing what was read
+    pub write-back : (text : List ℕ) → readOf text ≡ accepted t → between at e new ≡ raised text
+    write-back text q = written-text ∙ sym (reading-exact text t .0 q .same)
+
+-- what was read is written wherever its text has room: the answer is the end place
+pub read-fits : (text : List ℕ) (t : Table) (len at : ℕ) → readOf text ≡ accepted t → at + length text ≤ len
+    → writtenAnswer t len at ≡ End (at + length text)
+read-fits text t len at q h =
+    let w = reading-exact text t .0 q in
+    let long : length text ≡ length (planText t) = sym (raised-length text) ∙ ap length (w .same) in
+    sym (way-exact t len at _ .1 (written (w .legal) (omega arith))) ∙ ap (λ n. End (at + n)) (sym long)
