@@ -8,8 +8,8 @@ DIST ?= target/dist
 .DEFAULT_GOAL := build
 .PHONY: build check quick man install dist help
 
-build: ## prove and build the plan printer and the archive for C and Rust (some minutes the first time)
-	tools/build.sh printer archive
+build: ## prove and build the two programs and the archive for C and Rust (some minutes the first time)
+	tools/build.sh printer desk archive
 
 check: ## the gate, with a record for `make dist`; then printer and archive are built again
 	tools/gate.sh

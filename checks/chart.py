@@ -3,8 +3,9 @@
 
 For plans of 1 to 32 tasks: the picture is XML; it has the file's name and the plan's sha256; each row has a
 frame of one width, a dark part of C / D of it and, where the listing has one, a bound of bound / D of it;
-forced tasks are hatched; under refusal 14 the row of the place is marked. Expected numbers are taken from the
-plan's bytes and the stored listing here, not from the script. Exits with 1 where a picture differs.
+forced tasks are hatched; under refusal 14 the row of the place is marked, and the bounds are those of
+`plan test`. Expected numbers are taken from the plan's bytes and the listings here, not from the script that
+draws. Exits with 1 where a picture differs.
 """
 import hashlib
 import pathlib
@@ -47,6 +48,9 @@ def faults(plan):
     listing = plan.with_suffix(".listing").read_text(encoding="ascii")
     place = re.match(r"refused 14 place (\d+)", listing)
     bounds = re.findall(r"^task \d+ \w (\w+) bound (\d+)", listing, re.M)
+    if place:
+        got = subprocess.run([ROOT / "plan", "test", plan], capture_output=True, text=True, check=False)
+        bounds = re.findall(r"^task \d+ (\w) (?:bound )?(\d+|none) ", got.stdout, re.M)
     words, rows = picture(plan, 1 if place else 0)
     total = hashlib.sha256(plan.read_bytes()).hexdigest()
     if str(plan) not in words or f"sha256 {total}" not in words:
@@ -61,13 +65,13 @@ def faults(plan):
             continue
         if not near(row["cost"], cost / deadline, frame):
             yield f"task {k}: C is {row['cost']} of {frame}"
-        if place and ("bound" in row or "forced" in row):
-            yield f"task {k}: a bound under a refusal"
-        if not place:
-            given, bound = bounds[k - 1]
-            kind = "forced" if given == "forced" else "bound"
-            if kind not in row or not near(row[kind], int(bound) / deadline, frame):
-                yield f"task {k}: no {kind} of {bound}"
+        given, bound = bounds[k - 1]
+        kind = "forced" if given == "forced" else "bound"
+        if bound == "none":
+            if "bound" in row or "forced" in row:
+                yield f"task {k}: a bound where the test finds none"
+        elif kind not in row or not near(row[kind], int(bound) / deadline, frame):
+            yield f"task {k}: no {kind} of {bound}"
     if place and listing.strip() not in words[0]:
         yield "the refusal's line is not in the picture"
 

@@ -180,6 +180,70 @@ sh_gives 0 'ln -s a "$room/link"; echo >"$room/a"; ./plan $b -o "$room/link" && 
 cmp -s "$room/a" examples/b.listing || fail "-o through a symbolic link: not the listing"
 [ -z "$(find "$room" -name '.plan.*')" ] || fail "-o left a draft behind"
 
+# ---- test, apply, show, make: the desk program's verbs.
+gives 1 ./plan test $b
+wrote 'plan FP cores 1 tasks 2
+task 1 P bound 4 deadline 12 load 334
+task 2 P none deadline 18 load 375
+total load 709 answer no'
+said ''
+gives 0 ./plan apply $b -o "$room/release.plan"
+gives 0 ./plan test "$room/release.plan"
+[ "$(tail -n 1 "$out")" = 'total load 709 answer yes' ] || fail "the plan as changed does not pass its test"
+gives 0 ./plan apply "$room/release.plan"
+holds "$room/release.plan"
+gives 0 ./plan show $b
+wrote 'policy FP
+cores 1
+# T C D flag
+task 12 4 12 P
+task 24 9 18 P'
+sh_gives 0 './plan show $b | ./plan make | cmp - $b'
+wrote ''
+for words in test apply show; do
+    gives 2 ./plan $words $nine
+    wrote 'refused 9 place 3'
+    said "$told_9"
+done
+gives 1 ./plan apply $d
+wrote 'refused 14 place 1 passes 2'
+said "$told_14"
+echo before >"$room/kept"
+gives 1 ./plan apply $d -o "$room/kept"
+[ "$(cat "$room/kept")" = before ] || fail "apply -o: the file was touched by a refusal"
+
+# made STATUS TABLE ANSWER HINT: what make says of a table that is typed.
+made() {
+    printf '%b' "$2" >"$room/typed"
+    gives "$1" ./plan make "$room/typed"
+    wrote "$3"
+    said "$4"
+}
+head='policy FP\ncores 1\n'
+made 2 "${head}task 12 4 12 P\ntask 12 0 12 N # C\n" 'refused 11 place 2' \
+    'plan: task 2: the execution time C is not 1 to D [plan explain 11]'
+made 2 'policy EDF\ncores 17\ntask 1 1 1 P\n' 'refused 5 place 0' \
+    'plan: the head: the number of cores is not 1 to 16 [plan explain 5]'
+made 2 "$head" 'refused 7 place 0' 'plan: the head: the number of tasks is not 1 to 32 [plan explain 7]'
+made 2 "${head}task 99999999999999999999 1 1 P\n" 'refused 9 place 1' \
+    'plan: task 1: the period T is not 1 to 1,000,000 quanta [plan explain 9]'
+while IFS='|' read -r table why; do
+    made 3 "$table" '' "plan: $room/typed: $why"
+done <<'EOF'
+policy FP\ncores 1\ntask 12 4 x P\n|line 3: 'x' is no number for D
+policy FP\ncores 1\ntask 12 4 12 Q\n|line 3: 'Q' is no flag: P or N
+policy FP\ncores 1\ntask 12 4 12\n|line 3: after '12' a word is missing: task T C D FLAG
+policy FP\ncores 1\ntask 12 4 12 P 1\n|line 3: '1' is a word too many: task T C D FLAG
+policy FP\ncores 1\ncores 2\n|line 3: 'cores' was given before
+policy RM\n|line 1: 'RM' is no policy: EDF or FP
+plan FP\n|line 1: 'plan' begins no line: policy, cores, task or #
+cores 1\ntask 1 1 1 P\n|there is no line 'policy EDF' or 'policy FP'
+policy FP\ntask 1 1 1 P\n|there is no line 'cores NUMBER'
+EOF
+printf '\n  policy\tFP # words\r\ncores 01\n#\ntask 12 4 12 P\ntask 24 9 18 P' >"$room/typed"
+gives 0 ./plan make "$room/typed"
+holds $b
+
 # ---- explain.
 gives 0 ./plan explain 9
 wrote "refusal 9: The period T is not 1 to 1,000,000 quanta. Whose fault: Whoever filled in the task, or a \
@@ -256,6 +320,7 @@ gives 0 ./plan "$room/p"
 for plan in examples/*.plan corpus/good/*.plan corpus/bad/*.plan; do
     listing=${plan%.plan}.listing
     case $(head -n 1 "$listing") in "plan "*) status=0 ;; "refused 14 "*) status=1 ;; *) status=2 ;; esac
+    [ "$status" -eq 2 ] || sh_gives 0 './plan show "$plan" | ./plan make | cmp - "$plan"'
     gives "$status" ./plan "$plan"
     holds "$listing"
     [ "$status" -gt 0 ] || said ''

@@ -1,7 +1,7 @@
 #!/bin/sh
-# build.sh [printer] [archive]: proves and builds the plan printer, or the archive for C and Rust, unless it
-# is there as built from these very sources. Standard error gets a line for each crate that is proved.
-# Status 0: all that was named is there; 3: something could not be built.
+# build.sh [printer] [desk] [archive]: proves and builds the plan printer, the desk program, or the archive
+# for C and Rust, unless it is there as built from these very sources. Standard error gets a line for each
+# crate that is proved. Status 0: all that was named is there; 3: something could not be built.
 #
 # What counts is what the files hold, not their dates. Beside each product stands NAME.made, with one sum over
 # all that it is made of and one over the product itself: a change of either builds it again.
@@ -101,7 +101,8 @@ build() {
 for what in "$@"; do
     case $what in
         printer) build printer plan_printer target/bin/plan_printer rt check plan_printer || exit 3 ;;
+        desk) build 'desk program' desk target/bin/desk rt check desk || exit 3 ;;
         archive) build archive eskihrum target/staticlib/libeskihrum.a rt staticlib eskihrum || exit 3 ;;
-        *) say "build.sh builds printer and archive, not '$what'"; exit 3 ;;
+        *) say "build.sh builds printer, desk and archive, not '$what'"; exit 3 ;;
     esac
 done

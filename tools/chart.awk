@@ -1,9 +1,10 @@
 # chart.awk: an SVG picture of a plan that was read. The first file is the plan, the second its listing after
-# forcing, or the line of refusal 14; the environment has the plan's NAME and its sha256 as SUM.
+# forcing, or the listing as sent and the line of refusal 14; the environment has the plan's NAME and its
+# sha256 as SUM.
 #
 # Each row is scaled to its own deadline: the frame is D, dark is C, and light goes on to the bound. A forced
-# task is hatched. The listing of a refused table has no bounds: its rows show C in D as sent, and the row of
-# the refusal's place is marked.
+# task is hatched. Of a refused table the bounds are those of the test, as sent; the row of the refusal's
+# place is marked.
 function escaped(text) {
     gsub(/&/, "\\&amp;", text); gsub(/</, "\\&lt;", text); gsub(/>/, "\\&gt;", text)
     gsub(/[\001-\037\177]/, "?", text)
@@ -47,7 +48,10 @@ FNR == NR && FNR > 1 {
     deadline[n] = from_hex(substr($0, 21, 8))
 }
 
-# The listing: "task K F GIVEN bound B deadline D load L", or "refused 14 place K passes P".
+# The listing: "task K F GIVEN bound B deadline D load L"; as sent "task K F bound B deadline D load L" or
+# "task K F none deadline D load L", and then "refused 14 place K passes P".
+FNR < NR && $1 == "task" && $4 == "bound" { bound[$2] = $5; load[$2] = $9; next }
+FNR < NR && $1 == "task" && $4 == "none" { load[$2] = $8; next }
 FNR < NR && $1 == "task" { flag[$2] = $3; given[$2] = $4; bound[$2] = $6; load[$2] = $10 }
 FNR < NR && $1 == "refused" { place = $4 }
 FNR < NR { last = $0 }
@@ -63,7 +67,7 @@ END {
     words("name", 16, 46, ENVIRON["NAME"])
     words("sum", 16, 63, "sha256 " substr(ENVIRON["SUM"], 1, 64))
     words("note", 16, 82, "each row is scaled to its own deadline: the frame is D, dark is C, " \
-        (place ? "and a refusal gives no bounds" : "and light goes on to the bound"))
+        (place ? "and light goes on to the bound as sent" : "and light goes on to the bound"))
     numbers("over", top - 6, "T", "C", "bound", "D", "load")
     for (k = 1; k <= n; k++) {
         y = top + (k - 1) * row
@@ -71,8 +75,8 @@ END {
         if (k in bound) bar(given[k] == "forced" ? "forced" : "bound", y, bound[k] / deadline[k], 1)
         bar("cost", y, cost[k] / deadline[k], 1.5)
         bar(k == place ? "missed" : "deadline", y, 1, 0)
-        numbers("number", y + 16, period[k], cost[k], k in bound ? bound[k] : k == place ? "none" : "-",
-            deadline[k], k in load ? load[k] : "-")
+        numbers("number", y + 16, period[k], cost[k], k in bound ? bound[k] : "none",
+            deadline[k], load[k])
     }
     y = top + n * row + 26
     if (place) words("note", 16, y, "the red frame: the lowest task without a bound after forcing")

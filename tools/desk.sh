@@ -57,10 +57,11 @@ close_output() {
 
 # ---- How the printer is asked.
 
-# The printer is there and, in a work tree, built from the sources as they stand.
+# ready [printer | desk]: the program is there and, in a work tree, built from the sources as they stand.
 ready() {
-    [ ! -f "$root/crates.txt" ] || "$root/tools/build.sh" printer || exit 3
-    [ -x "$printer" ] || stop "there is no printer at $printer: install Eskihrum again"
+    [ ! -f "$root/crates.txt" ] || "$root/tools/build.sh" "${1:-printer}" || exit 3
+    case ${1:-printer} in printer) program=$printer ;; *) program=$desk ;; esac
+    [ -x "$program" ] || stop "there is no ${1:-printer} at $program: install Eskihrum again"
     [ -n "$room" ] || room=$(mktemp -d) || stop "no temporary folder can be made: has ${TMPDIR:-/tmp} room?"
     text=$room/text
 }
@@ -101,5 +102,26 @@ total load "*) return 0 ;;
         "refused "*" place "*) return 2 ;;
     esac
     say "the printer gave no whole answer: $printer is damaged; run make, or install Eskihrum again"
+    return 3
+}
+
+# ask_desk WHAT FILE: asks the desk program about the plan of FILE. $listing is what it writes; a refusal's
+# line is written and told, and the status is then 1 or 2.
+ask_desk() {
+    ready desk
+    listing=''
+    keep_text "$2" || return 3
+    desk_says "$1"
+}
+
+# desk_says WHAT: the same of the plan that is kept in $text.
+desk_says() {
+    listing=$({ printf '%s\n' "$1"; cat "$text"; } | "$desk")
+    case $listing in
+        "refused 14 place "*) refuse "$listing"; hint ''; return 1 ;;
+        "refused "*" place "*) refuse "$listing"; hint ''; return 2 ;;
+        ?*) return 0 ;;
+    esac
+    say "the desk program gave no whole answer: $desk is damaged; run make, or install Eskihrum again"
     return 3
 }

@@ -15,7 +15,7 @@ put() { # MODE FOLDER FILE..
 }
 
 put 755 "$to/bin" plan
-put 755 "$to/libexec/eskihrum" target/bin/plan_printer
+put 755 "$to/libexec/eskihrum" target/bin/plan_printer target/bin/desk
 put 644 "$own" VERSION TOOLCHAIN
 put 644 "$own/docs" docs/REFUSALS.md
 put 644 "$own/tools" tools/desk.sh tools/refusals.sh tools/verbs.sh tools/*.awk

@@ -62,3 +62,13 @@ hint() {
     fi
     say "$prefix$(place_in_words "$2" "$4"): $wrong [plan explain $2]"
 }
+
+# list_hint: the same for a table that was typed; the place is the task's number, and 0 for the head.
+list_hint() {
+    # shellcheck disable=SC2086 # the words of "refused NUMBER place PLACE"
+    set -- $listing
+    wrong=$(cell "$2" 2 | awk '{ sub(/\. .*|\.$/, ""); print tolower(substr($0, 1, 1)) substr($0, 2) }')
+    where='the head'
+    [ "$4" -eq 0 ] || where="task $4"
+    say "$where: $wrong [plan explain $2]"
+}

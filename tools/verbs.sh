@@ -22,8 +22,8 @@ verb_() {
     return "$worst"
 }
 
-# A table that was read is drawn, one refused with 14 too: the picture is then the answer. The refusal's line
-# goes to standard output only where the picture does not.
+# A table that was read is drawn, one refused with 14 too, with the bounds of the test: the picture is then
+# the answer. The refusal's line goes to standard output only where the picture does not.
 verb_chart() {
     ready
     file=${1:--}
@@ -31,7 +31,15 @@ verb_chart() {
     status=$?
     case $status in
         0) ;;
-        1) [ -z "$draft" ] || { refuse "$listing"; refused=''; }; hint '' ;;
+        1)
+            [ -z "$draft" ] || { refuse "$listing"; refused=''; }
+            hint ''
+            last=$listing
+            ready desk
+            desk_says test || return
+            listing="$listing
+$last"
+            ;;
         2) refuse "$listing"; hint ''; return 2 ;;
         *) return "$status" ;;
     esac
@@ -43,6 +51,42 @@ verb_chart() {
         stop "the picture could not be drawn: awk failed"
     answer "$picture"
     return "$status"
+}
+
+# The table as sent: no task is forced.
+verb_test() {
+    ask_desk test "${1:--}" || return
+    case $listing in
+        *"answer yes") answer "$listing" ;;
+        *) answer "$listing"; return 1 ;;
+    esac
+}
+
+# The plan as changed by forcing: what the loader installs.
+verb_apply() {
+    ask_desk apply "${1:--}" || return
+    answer "$listing"
+}
+
+# A plan as a table that people edit, and such a table as a plan.
+verb_show() {
+    ask_desk show "${1:--}" || return
+    answer "$(printf '%s\n' "$listing" | awk -f "$root/tools/shown.awk")"
+}
+
+# What the proved writer wrote is read back by the proved reader and compared with what was typed, before a
+# byte goes out.
+verb_make() {
+    ready desk
+    keep_text "${1:--}" || return
+    typed=$(awk -f "$root/tools/typed.awk" "$text") || { say "${1:-standard input}: $typed"; return 3; }
+    listing=$(printf 'make\n%s\n' "$typed" | "$desk")
+    case $listing in
+        "refused "*) refuse "$listing"; list_hint; return 2 ;;
+    esac
+    back=$(printf 'show\n%s\n' "$listing" | "$desk")
+    [ "$back" = "$typed" ] || stop "what was written does not read back as it was typed: nothing is given out"
+    answer "$listing"
 }
 
 verb_explain() {
