@@ -25,8 +25,8 @@ runs() {
     same "$2: version" "$(./plan --version)" "$(PATH=$room/bare "$1" --version)"
 }
 
-make install DESTDIR="$room/root" PREFIX=/usr >"$room/log" 2>&1 || fail "make install"
-usr=$room/root/usr
+make install DESTDIR="$room/stage" PREFIX=/usr >"$room/log" 2>&1 || fail "make install"
+usr=$room/stage/usr
 runs "$usr/bin/plan" "installed"
 for file in share/man/man1/plan.1 share/bash-completion/completions/plan include/eskihrum.h; do
     [ -s "$usr/$file" ] || fail "make install: there is no $file"
