@@ -31,6 +31,12 @@ example tasks
 told 0 "as given: no
 task 1: N, bound 12
 task 2: N, bound 17" target/tasks
+example writer
+told 0 "01010102FB
+02000000000C000000040000000CE2
+0200000000180000000900000012CB" target/writer
+told 2 "refused 16 place 0" target/writer 72
+told 0 "$(target/writer)" target/writer 73
 
 export CARGO_TARGET_DIR="$PWD/target/cargo"
 (cd rust && cargo test --offline --quiet -- --nocapture)

@@ -42,6 +42,12 @@ IN_RUST = {
     "&[u32]": ["{}: *const u32", "{}_len: usize"],
     "&mut [u32]": ["{}: *mut u32", "{}_len: usize"],
 }
+# What the definition's numbers are called in C and Rust; every other one is 0.
+FIELD = {name: name for name in ("number", "place", "forced", "passes", "records")} | {
+    "passing": "yes",
+    "end % 4294967296": "end_low",
+    "end / 4294967296": "end_high",
+}
 RESULT_IN_C = {"": "void", "u32": "uint32_t", "u64": "uint64_t", "usize": "size_t"}
 
 
@@ -107,18 +113,23 @@ def declarations():
 def fields():
     """The order of an answer's numbers: the definition's, the header's struct, the wrapper's, docs/C.md's."""
     header = HEADER.read_text(encoding="utf-8")
-    told = re.search(r"^fields ([\w ]+) =", TOLD.read_text(encoding="utf-8"), re.M).group(1).split()
-    order = ["yes" if name == "passing" else name for name in told]
+    told = re.search(r"^fields [\w ]+ =\n(.*?)\n\n", TOLD.read_text(encoding="utf-8"), re.M | re.S).group(1)
+    entries = enumerate(re.split(r"\s*∷\s*", told.strip()))
+    order = {FIELD[entry]: place for place, entry in entries if entry in FIELD}
     body = re.search(r"typedef struct eskihrum_answer \{(.*?)\}", header, re.S).group(1)
-    in_c = re.findall(r"uint32_t (\w+);", body)
+    in_c, place = {}, 0
+    for name, many in re.findall(r"uint32_t (\w+)(?:\[(\d+)\])?;", body):
+        if not name.startswith("reserved"):
+            in_c[name] = place
+        place += int(many or 1)
     if in_c != order:
         yield f"include/eskihrum.h: an eskihrum_answer has {in_c}, the definition {order}"
     shown = re.findall(r"^\| (\d+) \| `(\w+)` \|", (ROOT / "docs" / "C.md").read_text(encoding="utf-8"), re.M)
-    if shown != [(str(place), name) for place, name in enumerate(order)]:
+    if {name: int(place) for place, name in shown} != order:
         yield f"docs/C.md: the answer's table has {shown}, the definition {order}"
-    places = re.findall(r"^pub const ([A-Z]+): usize = (\d+);", FLAT.read_text(encoding="utf-8"), re.M)
+    places = re.findall(r"^pub const ([A-Z_]+): usize = (\d+);", FLAT.read_text(encoding="utf-8"), re.M)
     in_rust = {name.lower(): int(place) for name, place in places if name != "FIELDS"}
-    if in_rust != {name: place for place, name in enumerate(order)}:
+    if in_rust != order:
         yield f"rust/src/flat.rs: the places are {in_rust}, the definition has {order}"
 
 
@@ -173,10 +184,14 @@ def in_c(number, words):
     return start + ("\n" + " " * len(start)).join(quoted(part) for part in parts) + ";\n"
 
 
-def in_rust(_, words):
-    """One entry of a table."""
-    parts = cut(words, LONGEST_LINE - len("     ,"))
-    return "    " + quoted("\0".join(parts)).replace("\0", "\\\n     ") + ",\n"
+def in_rust(number, words):
+    """One arm of a match, laid out as rustfmt does."""
+    start = f"        {number} => "
+    if len(start + quoted(words) + ",") <= LONGEST_LINE:
+        return start + quoted(words) + ",\n"
+    parts = cut(words, LONGEST_LINE - len(" " * 13))
+    body = quoted("\0".join(parts)).replace("\0", "\\\n" + " " * 13)
+    return start + "{\n" + " " * 12 + body + "\n        }\n"
 
 
 def written(path, opened, closed, shape):
@@ -184,11 +199,11 @@ def written(path, opened, closed, shape):
     text = path.read_text(encoding="utf-8")
     for mark, cell in (("texts", 1), ("advice", 2)):
         lines = "".join(shape(row[0], row[cell]) for row in rows())
-        begin, end = f"{opened}{mark}: begin{closed}\n", f"    {opened}{mark}: end{closed}"
+        begin, end = f"{opened}{mark}: begin{closed}\n", f"{opened}{mark}: end{closed}"
         before, rest = text.split(begin)
-        text = before + begin + lines + end + rest.split(end)[1]
-    count = len(list(rows()))
-    return re.sub(r"\[&str; \d+\]", f"[&str; {count}]", text)
+        indent = before[before.rindex("\n") + 1:]
+        text = before + begin + lines + indent + end + rest.split(end)[1]
+    return text
 
 
 WORDED = ((HEADER, "/* ", " */", in_c), (TEXTS, "// ", "", in_rust))

@@ -2,8 +2,8 @@
 """claims.py: docs/CLAIMS.md says what is proved, and the sources say the same.
 
 A theorem or a function is named by a link, [`name`](../path#L12): the file declares that name, publicly, in
-that line. A row that names one has its sentence. Every specs file that the front page reaches is listed,
-every theorem of the front page and every word of its own specs stands in the paper as the source has it,
+that line. A row that names one has its sentence. Every specs file that the front pages reach is listed,
+every theorem of the front pages and every word of their own specs stands in the paper as the source has it,
 every public function has a row with its promise and one with two wrong answers, and every edit and file that
 a paper names is there. Prints what is wrong, a line each, and exits with 1. With the word `lines` it first
 sets the line numbers right.
@@ -14,7 +14,7 @@ import sys
 
 ROOT = pathlib.Path(__file__).resolve().parent.parent
 PAPER = ROOT / "docs" / "CLAIMS.md"
-FRONT = ROOT / "crates" / "claims" / "proofs" / "FrontPage.antt"
+FRONTS = [ROOT / "crates" / crate / "proofs" / "FrontPage.antt" for crate in ("claims", "claims_writing")]
 FOLDERS = "docs|crates|checks|examples|corpus|second|rust|bench|include|tools"
 LINK = re.compile(r"\[`([^`]+)`\]\(\.\./([\w/.+-]+)#L(\d+)\)")
 NAMES_IN_SPECS = re.compile(r"^use Rattle·(\w+?)(?:·specs)?\.specs\.(?:specs\.)?((?:declared\.)?\w+)", re.M)
@@ -79,8 +79,8 @@ def sentences():
 
 
 def reached():
-    """The files with the definitions that the front page's statements are made of."""
-    seen, waiting = set(), [FRONT]
+    """The files with the definitions that the front pages' statements are made of."""
+    seen, waiting = set(), [*FRONTS]
     while waiting:
         for crate, name in NAMES_IN_SPECS.findall(waiting.pop().read_text(encoding="utf-8")):
             base = ROOT / "crates" / crate
@@ -123,12 +123,13 @@ def declarations(text, with_bodies):
 
 
 def statements():
-    """The front page and the words of its own crate, held to the blocks of the paper that repeat them."""
+    """The front pages and the words of the first one, held to the blocks of the paper that repeat them."""
     blocks = re.findall(r"^```antt\n(.*?)^```$", PAPER.read_text(encoding="utf-8"), re.M | re.S)
     said = {plain(piece) for block in blocks for piece in pieces(block)} - {""}
     meant = {}
-    for name, piece in declarations(FRONT.read_text(encoding="utf-8"), False):
-        meant[plain(piece)] = f"the front page's {name}"
+    for front in FRONTS:
+        for name, piece in declarations(front.read_text(encoding="utf-8"), False):
+            meant[plain(piece)] = f"{name} of {front.relative_to(ROOT)}"
     for file in sorted((ROOT / "crates" / "claims" / "specs").glob("*.antt")):
         for name, piece in declarations(file.read_text(encoding="utf-8"), True):
             meant[plain(piece)] = f"{name} of {file.relative_to(ROOT)}"

@@ -265,11 +265,12 @@ explained 5 1 'line 1 (the head)'
 explained 12 34 'line 34 (after task 32, the last)'
 explained 13 0 'the list that a program lends'
 explained 14 32 'task 32'
+explained 16 0 'the buffer that a program lends'
 for number in '' No. --- 1e1 +9 -9 0 00 09 9.0 ' 9' 15 100 14x '9
 9'; do
     gives 3 ./plan explain -- "$number"
     wrote ''
-    said "plan: explain takes the number of a refusal, 1 to 14, and not '$number' [plan --help]"
+    said "plan: explain takes the number of a refusal, 1 to 14 or 16, and not '$number' [plan --help]"
 done
 gives 3 ./plan explain ---
 gives 3 ./plan --explain

@@ -37,10 +37,13 @@ extern "C" {
 /* The project's version, and what this header knows of the archive. An archive serves it exactly if
  * eskihrum_abi() is at least ESKIHRUM_ABI: calls and numbers are added, and never change their meaning. */
 #define ESKIHRUM_VERSION "0.2.0"
-#define ESKIHRUM_ABI 1
+#define ESKIHRUM_ABI 2
 
 /* A table has at most so many tasks; room for so many records is always enough. */
 #define ESKIHRUM_TASKS 32
+
+/* Room for so many bytes from the start place on is always enough: no plan is longer. */
+#define ESKIHRUM_PLAN_BYTES 1003
 
 enum { ESKIHRUM_EDF = 0, ESKIHRUM_FP = 1 };
 enum { ESKIHRUM_NON_PREEMPTIVE = 0, ESKIHRUM_PREEMPTIVE = 1 };
@@ -65,11 +68,15 @@ typedef struct eskihrum_record {
 typedef struct eskihrum_answer {
     uint32_t number;       /* the refusal's number, 0 for none: eskihrum_text says what it means */
     uint32_t place;        /* its place: a line for 1 to 12 of a plan, otherwise a task, or 0 for none */
-    uint32_t yes;          /* 1 if every task has a bound under the flags in the records; else 0 */
+    uint32_t yes;          /* 1 if every task has a bound under the flags in the records, or if the plan that
+                              was asked for is written; else 0 */
     uint32_t forced;       /* how many tasks forcing made non-preemptive */
     uint32_t passes;       /* how many tests of the whole table forcing made, under refusal 14 too */
     uint32_t records;      /* how many records were written: one for each task, or 0 in a refusal */
-    uint32_t reserved[10]; /* 0 */
+    uint32_t reserved[3];  /* 0 */
+    uint32_t end_low;      /* the place after the last byte written into a buffer: eskihrum_end puts */
+    uint32_t end_high;     /* its two halves together */
+    uint32_t reserved2[5]; /* 0 */
 } eskihrum_answer;
 
 /* Each field stands where the archive has its number. */
@@ -89,6 +96,8 @@ ESKIHRUM_AT(eskihrum_answer, yes, 2);
 ESKIHRUM_AT(eskihrum_answer, forced, 3);
 ESKIHRUM_AT(eskihrum_answer, passes, 4);
 ESKIHRUM_AT(eskihrum_answer, records, 5);
+ESKIHRUM_AT(eskihrum_answer, end_low, 9);
+ESKIHRUM_AT(eskihrum_answer, end_high, 10);
 ESKIHRUM_HOLDS(sizeof(eskihrum_answer) == 16 * sizeof(uint32_t));
 
 /* ---- The archive's functions, on flat numbers. Those further down count tasks and records instead. ---- */
@@ -112,6 +121,15 @@ uint32_t eskihrum_flat_force_tasks(uint32_t cores, uint32_t policy, const uint32
                                    uint32_t *records, size_t records_len, uint32_t *answer,
                                    size_t answer_len);
 
+/* A table of numbers as a plan, and the plan of text_len bytes at text as changed by forcing, into the buffer
+ * from the place start on. The answer's end place is the one after the last byte written; the bytes before
+ * the start and those from the end on stay. The result is the answer's yes: 1 where the plan is written. */
+uint32_t eskihrum_flat_write_tasks(uint32_t cores, uint32_t policy, const uint32_t *tasks, size_t tasks_len,
+                                   uint8_t *buffer, size_t buffer_len, size_t start, uint32_t *answer,
+                                   size_t answer_len);
+uint32_t eskihrum_flat_write_changed(const uint8_t *text, size_t text_len, uint8_t *buffer, size_t buffer_len,
+                                     size_t start, uint32_t *answer, size_t answer_len);
+
 /* The two older calls: job is ESKIHRUM_TEST, or ESKIHRUM_FORCE and any other number. Their answer is one
  * number, whose parts the macros give. They stay as they are. */
 enum { ESKIHRUM_TEST = 0, ESKIHRUM_FORCE = 1 };
@@ -133,12 +151,18 @@ static inline size_t eskihrum_numbers(size_t n, size_t most, size_t size) {
     return (n < most ? n : most) * size;
 }
 
+/* An answer of which nothing is said yet. */
+static inline eskihrum_answer eskihrum_no_answer(void) {
+    const eskihrum_answer none = {0, 0, 0, 0, 0, 0, {0, 0, 0}, 0, 0, {0, 0, 0, 0, 0}};
+    return none;
+}
+
 /* The test of a plan: the `bytes` bytes at text. room is how many records there is room for at records. The
  * first answer.records of them are written, for each task its flag as given and its bound; others keep their
  * contents. A no is no refusal: the records without a bound say why. */
 static inline eskihrum_answer eskihrum_test_plan(const void *text, size_t bytes, eskihrum_record *records,
                                                  size_t room) {
-    eskihrum_answer answer = {0, 0, 0, 0, 0, 0, {0}};
+    eskihrum_answer answer = eskihrum_no_answer();
     eskihrum_flat_test_plan((const uint8_t *)text, bytes, (uint32_t *)records,
                             eskihrum_numbers(room, ESKIHRUM_TASKS, 3), (uint32_t *)&answer, 16);
     return answer;
@@ -148,7 +172,7 @@ static inline eskihrum_answer eskihrum_test_plan(const void *text, size_t bytes,
  * accepts, the records have the flags at the end: these are to be installed. A refusal writes none. */
 static inline eskihrum_answer eskihrum_force_plan(const void *text, size_t bytes, eskihrum_record *records,
                                                   size_t room) {
-    eskihrum_answer answer = {0, 0, 0, 0, 0, 0, {0}};
+    eskihrum_answer answer = eskihrum_no_answer();
     eskihrum_flat_force_plan((const uint8_t *)text, bytes, (uint32_t *)records,
                              eskihrum_numbers(room, ESKIHRUM_TASKS, 3), (uint32_t *)&answer, 16);
     return answer;
@@ -157,7 +181,7 @@ static inline eskihrum_answer eskihrum_force_plan(const void *text, size_t bytes
 /* The test of n tasks on so many cores under ESKIHRUM_EDF or ESKIHRUM_FP, as that of a plan. */
 static inline eskihrum_answer eskihrum_test_tasks(uint32_t cores, uint32_t policy, const eskihrum_task *tasks,
                                                   size_t n, eskihrum_record *records, size_t room) {
-    eskihrum_answer answer = {0, 0, 0, 0, 0, 0, {0}};
+    eskihrum_answer answer = eskihrum_no_answer();
     eskihrum_flat_test_tasks(cores, policy, (const uint32_t *)tasks,
                              eskihrum_numbers(n, ESKIHRUM_TASKS + 1, 4), (uint32_t *)records,
                              eskihrum_numbers(room, ESKIHRUM_TASKS, 3), (uint32_t *)&answer, 16);
@@ -168,10 +192,39 @@ static inline eskihrum_answer eskihrum_test_tasks(uint32_t cores, uint32_t polic
 static inline eskihrum_answer eskihrum_force_tasks(uint32_t cores, uint32_t policy,
                                                    const eskihrum_task *tasks, size_t n,
                                                    eskihrum_record *records, size_t room) {
-    eskihrum_answer answer = {0, 0, 0, 0, 0, 0, {0}};
+    eskihrum_answer answer = eskihrum_no_answer();
     eskihrum_flat_force_tasks(cores, policy, (const uint32_t *)tasks,
                               eskihrum_numbers(n, ESKIHRUM_TASKS + 1, 4), (uint32_t *)records,
                               eskihrum_numbers(room, ESKIHRUM_TASKS, 3), (uint32_t *)&answer, 16);
+    return answer;
+}
+
+/* The end place of what a call has written into a buffer, 0 in a refusal. */
+static inline size_t eskihrum_end(eskihrum_answer answer) {
+    return (size_t)((uint64_t)answer.end_high << 32 | answer.end_low);
+}
+
+/* Writes the plan of n tasks into the buffer of `bytes` bytes, from the place start on; eskihrum_end of the
+ * answer is the place after it. The bytes before the start and those from the end on stay. Refused as a test
+ * is, and then with 16 where there is too little room, or where the start lies past the buffer's end; a
+ * refusal writes nothing. */
+static inline eskihrum_answer eskihrum_write_tasks(uint32_t cores, uint32_t policy,
+                                                   const eskihrum_task *tasks, size_t n, void *buffer,
+                                                   size_t bytes, size_t start) {
+    eskihrum_answer answer = eskihrum_no_answer();
+    eskihrum_flat_write_tasks(cores, policy, (const uint32_t *)tasks,
+                              eskihrum_numbers(n, ESKIHRUM_TASKS + 1, 4), (uint8_t *)buffer, bytes, start,
+                              (uint32_t *)&answer, 16);
+    return answer;
+}
+
+/* Forces the plan of text_bytes bytes at text and writes the plan as changed, with the flags at the end of
+ * forcing: what a loader installs. Refused as forcing is, and then with 16, as eskihrum_write_tasks is. */
+static inline eskihrum_answer eskihrum_write_changed(const void *text, size_t text_bytes, void *buffer,
+                                                     size_t bytes, size_t start) {
+    eskihrum_answer answer = eskihrum_no_answer();
+    eskihrum_flat_write_changed((const uint8_t *)text, text_bytes, (uint8_t *)buffer, bytes, start,
+                                (uint32_t *)&answer, 16);
     return answer;
 }
 
@@ -198,6 +251,8 @@ static inline const char *eskihrum_text(uint32_t number) {
     case 13: return "The caller's list has fewer records than the table has tasks.";
     case 14: return "Forcing has ended, and the task still has no bound. No choice of further "
                     "non-preemptive tasks passes the test.";
+    case 16: return "The buffer has too little room for the plan from the start place on, or the start "
+                    "place lies past its end.";
     /* texts: end */
     default: return "There is no such refusal.";
     }
@@ -225,6 +280,8 @@ static inline const char *eskihrum_advice(uint32_t number) {
     case 14: return "Shorten an execution time, lengthen a period, take a task away or add a core: none of "
                     "these turns a yes into a no. A deadline can go either way, so try it in both "
                     "directions. The place is the lowest-numbered task without a bound after forcing.";
+    case 16: return "Lend a longer buffer, or start earlier: a plan has 11 bytes and 31 for each task, "
+                    "1,003 at most.";
     /* advice: end */
     default: return "Compare the number with docs/REFUSALS.md.";
     }

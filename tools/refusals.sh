@@ -12,7 +12,7 @@ refusal_numbers() { awk -F ' *[|] *' '$2 ~ /^[0-9]+$/ { print $2 }' "$root/docs/
 refusal_ranges() {
     refusal_numbers | awk '
         function range() { return first (last > first ? " to " last : "") }
-        NR > 1 && $1 != last + 1 { told = told range() ", " }
+        NR > 1 && $1 != last + 1 { told = told range() " or " }
         NR == 1 || $1 != last + 1 { first = $1 }
         { last = $1 }
         END { print told range() }'
@@ -47,6 +47,7 @@ place_in_words() {
 list_place_in_words() {
     case $(cell "$1" 7) in
         head | none) if within "$2" 0 0; then printf 'the list that a program lends'; fi ;;
+        buffer) if within "$2" 0 0; then printf 'the buffer that a program lends'; fi ;;
         'task line') if within "$2" 1 32; then printf 'task %s of a list that a program lends' "$2"; fi ;;
     esac
 }

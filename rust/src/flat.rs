@@ -20,9 +20,13 @@ pub const FORCED: usize = 3;
 pub const PASSES: usize = 4;
 /// The place of the number of records that were written.
 pub const RECORDS: usize = 5;
+/// The place of the low 32 bits of the end place in a buffer.
+pub const END_LOW: usize = 9;
+/// The place of its high 32 bits.
+pub const END_HIGH: usize = 10;
 
 /// What this wrapper knows of the archive: calls and numbers of an answer are only ever added.
-pub const ABI: u32 = 1;
+pub const ABI: u32 = 2;
 
 // checks/border.py compares these declarations with the archive's source.
 extern "C" {
@@ -60,6 +64,26 @@ extern "C" {
         tasks_len: usize,
         records: *mut u32,
         records_len: usize,
+        answer: *mut u32,
+        answer_len: usize,
+    ) -> u32;
+    fn eskihrum_flat_write_tasks(
+        cores: u32,
+        policy: u32,
+        tasks: *const u32,
+        tasks_len: usize,
+        buffer: *mut u8,
+        buffer_len: usize,
+        start: usize,
+        answer: *mut u32,
+        answer_len: usize,
+    ) -> u32;
+    fn eskihrum_flat_write_changed(
+        text: *const u8,
+        text_len: usize,
+        buffer: *mut u8,
+        buffer_len: usize,
+        start: usize,
         answer: *mut u32,
         answer_len: usize,
     ) -> u32;
@@ -149,6 +173,47 @@ pub fn force_tasks(cores: u32, policy: u32, tasks: &[u32], records: &mut [u32], 
             tasks.len(),
             records.as_mut_ptr(),
             records.len(),
+            answer.as_mut_ptr(),
+            answer.len(),
+        )
+    }
+}
+
+/// A flat table as a plan, from the place `start` of the buffer on; 1 where it is written.
+pub fn write_tasks(
+    cores: u32,
+    policy: u32,
+    tasks: &[u32],
+    buffer: &mut [u8],
+    start: usize,
+    answer: &mut [u32],
+) -> u32 {
+    // SAFETY: as above.
+    unsafe {
+        eskihrum_flat_write_tasks(
+            cores,
+            policy,
+            tasks.as_ptr(),
+            tasks.len(),
+            buffer.as_mut_ptr(),
+            buffer.len(),
+            start,
+            answer.as_mut_ptr(),
+            answer.len(),
+        )
+    }
+}
+
+/// The plan of a text as changed, from the place `start` of the buffer on; 1 where it is written.
+pub fn write_changed(text: &[u8], buffer: &mut [u8], start: usize, answer: &mut [u32]) -> u32 {
+    // SAFETY: as above.
+    unsafe {
+        eskihrum_flat_write_changed(
+            text.as_ptr(),
+            text.len(),
+            buffer.as_mut_ptr(),
+            buffer.len(),
+            start,
             answer.as_mut_ptr(),
             answer.len(),
         )

@@ -3,9 +3,12 @@
 //! A function for each job: the test says whether every task has a bound, forcing makes tasks non-preemptive
 //! until the test passes. Both take a plan text ([`test_plan`], [`force_plan`]) or a list of tasks
 //! ([`test_tasks`], [`force_tasks`]), and write a [`Record`] for each task into a list that the caller lends.
+//! Two more write a plan into a buffer: [`write_tasks`] that of a list of tasks, and [`write_changed`] that
+//! of a plan text with the flags at the end of forcing, which is what a loader installs.
 //!
 //! ```
-//! use eskihrum::{force_tasks, test_tasks, Policy, Record, Task};
+//! use eskihrum::{force_tasks, test_plan, test_tasks, write_changed, write_tasks};
+//! use eskihrum::{Policy, Record, Task, PLAN_BYTES};
 //!
 //! let tasks = [Task::preemptive(12, 4, 12), Task::preemptive(24, 9, 18)];
 //! let mut room = [Record::default(); 2];
@@ -19,6 +22,11 @@
 //! let refusal = force_tasks(1, Policy::Edf, &tasks, &mut room).unwrap_err();
 //! assert_eq!((refusal.number, refusal.passes), (14, 3));
 //! println!("{refusal}\n{}", refusal.advice());
+//!
+//! let (mut sent, mut changed) = ([0; PLAN_BYTES], [0; PLAN_BYTES]);
+//! let end = write_tasks(1, Policy::Fp, &tasks, &mut sent, 0)?;
+//! let end = write_changed(&sent[..end], &mut changed, 0)?;
+//! assert!(test_plan(&changed[..end], &mut room)?.yes);
 //! # Ok::<(), eskihrum::Refusal>(())
 //! ```
 //!
@@ -43,6 +51,9 @@ pub use refusal::{Place, Refusal};
 
 /// Room for so many records is always enough: a table has at most so many tasks.
 pub const TASKS: usize = 32;
+
+/// Room for so many bytes from the start place on is always enough: no plan is longer.
+pub const PLAN_BYTES: usize = 1003;
 
 /// Which task a core runs first.
 #[derive(Clone, Copy, Debug, PartialEq, Eq)]
@@ -164,6 +175,31 @@ pub fn force_tasks<'a>(
     forced(answer, refusal::of_tasks, room)
 }
 
+/// The plan of a list of tasks, from the place `start` of the buffer on; the answer is the place after its
+/// last byte.
+///
+/// The bytes before the start and those after the end stay. 16 is the refusal where there is too little room
+/// from the start place, or where it lies past the buffer's end; a refusal writes nothing.
+pub fn write_tasks(
+    cores: u32,
+    policy: Policy,
+    tasks: &[Task],
+    buffer: &mut [u8],
+    start: usize,
+) -> Result<usize, Refusal> {
+    let mut answer = [0; flat::FIELDS];
+    flat::write_tasks(cores, policy as u32, flat::numbers(tasks), buffer, start, &mut answer);
+    ended(answer, refusal::of_tasks)
+}
+
+/// The plan of a text as changed: the table that it sends, with the flags at the end of forcing. It goes into
+/// the buffer as in [`write_tasks`]; the refusals are those of [`force_plan`], and then 16.
+pub fn write_changed(text: &[u8], buffer: &mut [u8], start: usize) -> Result<usize, Refusal> {
+    let mut answer = [0; flat::FIELDS];
+    flat::write_changed(text, buffer, start, &mut answer);
+    ended(answer, refusal::of_plan)
+}
+
 /// The answer's numbers, in the order of the archive.
 type Answer = [u32; flat::FIELDS];
 
@@ -176,6 +212,12 @@ fn forced(answer: Answer, refusal: fn(&Answer) -> Refusal, room: &[Record]) -> R
     unless_refused(&answer, refusal)?;
     let (count, passes) = (answer[flat::FORCED], answer[flat::PASSES]);
     Ok(Forced { count, passes, records: written(&answer, room) })
+}
+
+/// The end place. The archive is for machines whose places have 64 bits.
+fn ended(answer: Answer, refusal: fn(&Answer) -> Refusal) -> Result<usize, Refusal> {
+    unless_refused(&answer, refusal)?;
+    Ok(answer[flat::END_HIGH] as usize * (1 << 32) + answer[flat::END_LOW] as usize)
 }
 
 fn unless_refused(answer: &Answer, refusal: fn(&Answer) -> Refusal) -> Result<(), Refusal> {

@@ -3,7 +3,7 @@
 use core::fmt;
 
 use crate::flat;
-use crate::texts::{ADVICE, TEXTS};
+use crate::texts;
 
 /// Where a refusal points.
 #[derive(Clone, Copy, Debug, PartialEq, Eq)]
@@ -16,10 +16,10 @@ pub enum Place {
     Task(u32),
 }
 
-/// A numbered refusal of document 01. The caller's list is as it was.
+/// A numbered refusal of documents 01 and 02. The caller's list or buffer is as it was.
 #[derive(Clone, Copy, Debug, PartialEq, Eq)]
 pub struct Refusal {
-    /// Its number, 1 to 14.
+    /// Its number, 1 to 14, or 16.
     pub number: u32,
     /// Its place.
     pub place: Place,
@@ -30,18 +30,13 @@ pub struct Refusal {
 impl Refusal {
     /// What is wrong, in the words of docs/REFUSALS.md.
     pub fn text(&self) -> &'static str {
-        told(&TEXTS, self.number)
+        texts::text(self.number)
     }
 
     /// What to do about it, in the words of docs/REFUSALS.md.
     pub fn advice(&self) -> &'static str {
-        told(&ADVICE, self.number)
+        texts::advice(self.number)
     }
-}
-
-fn told(rows: &[&'static str], number: u32) -> &'static str {
-    let row = (number as usize).checked_sub(1).and_then(|row| rows.get(row));
-    row.copied().unwrap_or("There is no such refusal.")
 }
 
 /// A plan is counted in lines while it is read, and in tasks once it is read.

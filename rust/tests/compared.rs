@@ -3,7 +3,8 @@
 //! beside a border.
 
 use eskihrum::{flat, Forced, Place, Policy, Record, Refusal, Task, Tested};
-use second::compare::{everything, short, Compared, Planner, TEST};
+use second::compare::{everything, short, unflat, Compared, Planner, TEST};
+use second::compare_writing::{compared, Said, Writer};
 
 /// The number of calls that agree is printed; a table on which the two differ is kept in
 /// target/difference.txt.
@@ -144,6 +145,63 @@ fn safe_list(job: u32, cores: u32, policy: u32, tasks: &[u32], records: &mut [u3
     })
 }
 
+// ---------------------------------------------------------------- the writers
+
+const FLAT_WRITER: Writer = Writer { tasks: flat_write_tasks, changed: flat_write_changed };
+const SAFE_WRITER: Writer = Writer { tasks: safe_write_tasks, changed: safe_write_changed };
+
+/// The end place, or the refusal; all other numbers of the answer have to be 0, and those behind it kept.
+fn written(run: impl FnOnce(&mut [u32]) -> u32) -> Said {
+    const GUARD: u32 = 0xC3C3_C3C3;
+    let mut answer = [GUARD; flat::FIELDS + 2];
+    let yes = run(&mut answer);
+    let [number, place, told, forced, passes, records, _, _, _, low, high, rest @ ..] = answer;
+    assert_eq!((told, forced, records), (yes, 0, 0), "what a writer says");
+    assert_eq!((&answer[6..9], rest), (&[0; 3][..], [0, 0, 0, 0, 0, GUARD, GUARD]), "what no field is for");
+    if number == 0 {
+        assert_eq!((yes, place, passes), (1, 0, 0), "an end without a refusal");
+        return Ok(low as usize + ((high as usize) << 32));
+    }
+    assert_eq!((yes, low, high), (0, 0, 0), "a refusal without an end");
+    Err((number, place, passes))
+}
+
+fn flat_write_tasks(cores: u32, policy: u32, tasks: &[u32], buffer: &mut [u8], start: usize) -> Said {
+    written(|answer| flat::write_tasks(cores, policy, tasks, buffer, start, answer))
+}
+
+fn flat_write_changed(text: &[u8], buffer: &mut [u8], start: usize) -> Said {
+    written(|answer| flat::write_changed(text, buffer, start, answer))
+}
+
+fn parts(refusal: Refusal) -> (u32, u32, u32) {
+    let place = match refusal.place {
+        Place::Nowhere => 0,
+        Place::Line(place) | Place::Task(place) => place,
+    };
+    (refusal.number, place, refusal.passes)
+}
+
+fn safe_write_tasks(cores: u32, policy: u32, tasks: &[u32], buffer: &mut [u8], start: usize) -> Said {
+    let policy = match policy {
+        0 => Policy::Edf,
+        1 => Policy::Fp,
+        _ => return flat_write_tasks(cores, policy, tasks, buffer, start),
+    };
+    let task = |one: second::plan::Task| Task {
+        flag: one.flag,
+        period: one.period,
+        cost: one.cost,
+        deadline: one.deadline,
+    };
+    let tasks: Vec<Task> = unflat(tasks).into_iter().map(task).collect();
+    eskihrum::write_tasks(cores, policy, &tasks, buffer, start).map_err(parts)
+}
+
+fn safe_write_changed(text: &[u8], buffer: &mut [u8], start: usize) -> Said {
+    eskihrum::write_changed(text, buffer, start).map_err(parts)
+}
+
 // ---------------------------------------------------------------- the runs
 
 const OLDER: Planner = Planner { text: flat::plan, list: flat::tasks };
@@ -164,6 +222,12 @@ fn safe_functions_agree() {
     told("safe functions", 305, short(&SAFE, 305));
 }
 
+#[test]
+fn writers_agree() {
+    told("flat writers", 308, compared(&FLAT_WRITER, 308, 4_000));
+    told("safe writers", 309, compared(&SAFE_WRITER, 309, 4_000));
+}
+
 /// The long run, with a seed from the environment: SEED=7 cargo test --release -- --ignored --nocapture
 #[test]
 #[ignore]
@@ -172,4 +236,6 @@ fn agree_at_length() {
     for (way, planner) in [("older calls", OLDER), ("flat calls", FLAT), ("safe functions", SAFE)] {
         told(way, seed, everything(&planner, seed));
     }
+    told("flat writers", seed, compared(&FLAT_WRITER, seed, 100_000));
+    told("safe writers", seed, compared(&SAFE_WRITER, seed, 100_000));
 }

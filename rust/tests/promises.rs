@@ -1,8 +1,8 @@
 //! The wrapper's promises on document 01's cases, each in a few lines: what every function writes, tells and
 //! refuses. A quick run that catches the wrong wrappers of checks/wrong.
 
-use eskihrum::{flat, force_plan, force_tasks, test_plan, test_tasks};
-use eskihrum::{Forced, Place, Policy, Record, Refusal, Task, Tested};
+use eskihrum::{flat, force_plan, force_tasks, test_plan, test_tasks, write_changed, write_tasks};
+use eskihrum::{Forced, Place, Policy, Record, Refusal, Task, Tested, PLAN_BYTES};
 
 const B: &[u8] = include_bytes!("../../examples/b.plan");
 const D: &[u8] = include_bytes!("../../examples/d.plan");
@@ -169,6 +169,62 @@ fn the_tasks_arrive_whole() {
     assert_eq!(force_tasks(1, Policy::Fp, &[], &mut room), Err(refusal(7, Place::Nowhere, 0)));
 }
 
+/// Cases a and b as plans: document 01's lines, and those of the same table with both flags 0.
+const A_TEXT: &[u8] = b"01010102FB\n02010000000C000000040000000CE1\n0201000000180000000900000012CA\n";
+const B_TEXT: &[u8] = b"01010102FB\n02000000000C000000040000000CE2\n0200000000180000000900000012CB\n";
+
+/// The text in the middle, the bytes around it, and the end place; 16 where one byte is missing.
+#[test]
+fn plans_are_written_in_their_place() {
+    for (text, by_text) in [(A_TEXT, false), (B_TEXT, true)] {
+        let run = |buffer: &mut [u8], start| match by_text {
+            true => write_changed(A_TEXT, buffer, start),
+            false => write_tasks(1, Policy::Fp, &TASKS, buffer, start),
+        };
+        let mut buffer = [b'#'; 80];
+        assert_eq!(run(&mut buffer, 3), Ok(76));
+        assert_eq!(buffer[..], [b"###", text, b"####"].concat());
+        assert_eq!(run(&mut [0; 73], 0), Ok(73));
+        let mut buffer = [b'#'; 80];
+        for (room, start) in [(72, 0), (75, 3), (0, 0), (80, 80), (80, 81), (80, usize::MAX)] {
+            assert_eq!(run(&mut buffer[..room], start), Err(refusal(16, Place::Nowhere, 0)));
+        }
+        assert_eq!(buffer, [b'#'; 80]);
+    }
+}
+
+/// The longest plan is written whole, and tested as changed it says yes.
+#[test]
+fn what_is_written_is_read() {
+    let tasks = [Task::preemptive(1_000_000, 1, 1_000_000); 32];
+    let mut sent = [0; PLAN_BYTES];
+    assert_eq!(write_tasks(16, Policy::Edf, &tasks, &mut sent, 0), Ok(PLAN_BYTES));
+    let mut room = [KEPT; 32];
+    assert_eq!(test_plan(&sent, &mut room).map(|told| told.records.len()), Ok(32));
+    let mut changed = [0; PLAN_BYTES];
+    let end = write_changed(B, &mut changed, 0).expect("case b is accepted");
+    assert_eq!(test_plan(&changed[..end], &mut room).map(|told| told.yes), Ok(true));
+    let told = force_plan(&changed[..end], &mut room);
+    assert_eq!(told.map(|told| (told.count, told.passes)), Ok((0, 1)));
+}
+
+#[test]
+fn writers_refuse_as_the_others_do() {
+    let mut buffer = [b'#'; 80];
+    let zero = [TASKS[0], Task { cost: 0, ..TASKS[1] }];
+    for (told, wanted) in [
+        (write_tasks(17, Policy::Fp, &TASKS, &mut buffer, 0), refusal(5, Place::Nowhere, 0)),
+        (write_tasks(1, Policy::Fp, &[], &mut buffer, 99), refusal(7, Place::Nowhere, 0)),
+        (write_tasks(1, Policy::Fp, &[TASKS[0]; 33], &mut buffer, 0), refusal(7, Place::Nowhere, 0)),
+        (write_tasks(1, Policy::Edf, &zero, &mut buffer, 99), refusal(11, Place::Task(2), 0)),
+        (write_changed(&B[..B.len() - 1], &mut buffer, 0), refusal(1, Place::Line(3), 0)),
+        (write_changed(I, &mut buffer, 99), refusal(14, Place::Task(2), 4)),
+    ] {
+        assert_eq!(told, Err(wanted));
+    }
+    assert_eq!(buffer, [b'#'; 80]);
+}
+
 /// Tasks and records as numbers: every one of them, in order.
 #[test]
 fn numbers_are_the_fields_in_order() {
@@ -190,6 +246,24 @@ fn a_lent_answer_is_written_as_far_as_it_goes() {
         assert_eq!(records, [0, 1, 12, 0, 1, 17]);
     }
     assert_eq!(flat::abi(), flat::ABI);
+}
+
+/// The answer of a writer: the yes, the end place in its two halves, and nothing else.
+#[test]
+fn a_writer_tells_its_end() {
+    for room in 0..20 {
+        let (mut answer, mut buffer) = ([5; 20], [b'#'; 90]);
+        assert_eq!(flat::write_changed(B, &mut buffer, 9, &mut answer[..room]), 1);
+        let told = [0, 0, 1, 0, 0, 0, 0, 0, 0, 82, 0, 0, 0, 0, 0, 0, 5, 5, 5, 5];
+        assert_eq!(answer[..room], told[..room]);
+        assert_eq!(answer[room..], [5; 20][room..]);
+        assert_eq!(buffer[9..82], *B_TEXT);
+        let numbers = flat::numbers(&TASKS);
+        assert_eq!(flat::write_tasks(1, 2, numbers, &mut buffer, 9, &mut answer[..room]), 0);
+        let told = [6, 0, 0, 0, 0, 0, 0, 0, 0, 0, 0, 0, 0, 0, 0, 0, 5, 5, 5, 5];
+        assert_eq!(answer[..room], told[..room]);
+        assert_eq!(answer[room..], [5; 20][room..]);
+    }
 }
 
 /// A refusal says what is wrong and where, and what to do.
@@ -214,6 +288,8 @@ fn refusals_in_words() {
     assert!(refusal(14, Place::Task(1), 2).to_string().starts_with("refused 14 at task 1 after 2 passes: "));
     assert!(refusal(14, Place::Task(1), 1).to_string().starts_with("refused 14 at task 1 after 1 pass: "));
     assert_eq!(refusal(5, Place::Nowhere, 0).advice(), "Give the number of cores of the chip.");
+    assert!(refusal(16, Place::Nowhere, 0).to_string().starts_with("refused 16: The buffer has too little"));
+    assert_eq!(refusal(15, Place::Nowhere, 0).text(), "There is no such refusal.");
     assert_eq!(refusal(99, Place::Nowhere, 0).text(), "There is no such refusal.");
     assert_eq!(refusal(0, Place::Nowhere, 0).advice(), "There is no such refusal.");
     assert_eq!([Policy::Edf.to_string(), Policy::Fp.to_string()], ["EDF", "FP"]);

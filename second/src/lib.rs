@@ -9,6 +9,7 @@
 pub mod batch;
 pub mod bound;
 pub mod compare;
+pub mod compare_writing;
 pub mod corpus;
 pub mod forcing;
 pub mod hand;

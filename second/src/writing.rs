@@ -1,10 +1,22 @@
-//! Writing a plan into a buffer, from document 02's first request: each line goes to where the last one
-//! ended, the answer is the end place, and every other byte stays.
+//! Writing a plan into a buffer from a starting place, and writing the plan as changed by forcing. The lines
+//! are worked out here once more from document 01, apart from `plan::write`, so that the two can be compared.
 
 use crate::forcing::{force, BoundOf};
-use crate::plan::{check_list, line, read, refuse, task_bytes, Refusal, Table, Task};
+use crate::plan::{check_list, read, refuse, Refusal, Task};
 
-/// The end place; or 5 to 11 as for a list, then 16, and nothing is written.
+/// Upper-case digits 0-9, A-F.
+const DIGITS: &[u8; 16] = b"0123456789ABCDEF";
+
+/// A line is ended by one byte 0A.
+const LINE_END: u8 = 0x0A;
+
+/// Bytes of a line: 10 digits for the head, 30 for a task, and the 0A.
+const HEAD_LINE: usize = 10 + 1;
+const TASK_LINE: usize = 30 + 1;
+
+/// Writes the plan of a legal table into the buffer from the start place; the answer is the end place, the
+/// first after the last 0A. Bytes before the start and after the end stay. Refusals: 5 to 11 as for a list,
+/// then 16; nothing is written then.
 pub fn write_at(
     cores: u32,
     policy: u32,
@@ -12,43 +24,97 @@ pub fn write_at(
     buffer: &mut [u8],
     start: usize,
 ) -> Result<usize, Refusal> {
-    let table = check_list(cores, policy, tasks, tasks.len())?;
-    put(&table, buffer, start)
+    let n = tasks.len();
+    // There is no list of records here, so that 13 is never given: as many records are left as are needed.
+    check_list(cores, policy, tasks, n)?;
+    check_buffer(n, buffer.len(), start)?;
+    let mut rest = &mut buffer[start..];
+    rest = write_frame(rest, &head_bytes(cores, policy, n));
+    for task in tasks {
+        rest = write_frame(rest, &task_bytes(task));
+    }
+    let after = rest.len();
+    Ok(buffer.len() - after)
 }
 
-/// A plan text is forced, and the sent table with its final flags is written. It refuses as forcing does,
-/// and then with 16.
+/// Forces a plan and writes the table as it was sent, with the flags at the end of forcing. Refusals: as
+/// forcing refuses the plan, then 16; nothing is written then.
 pub fn write_changed(
     text: &[u8],
     buffer: &mut [u8],
     start: usize,
     bound_of: BoundOf,
 ) -> Result<usize, Refusal> {
-    let mut table = read(text)?;
-    let forced = force(&table, bound_of)?;
-    for (task, record) in table.tasks.iter_mut().zip(&forced.records) {
+    let table = read(text)?;
+    let answer = force(&table, bound_of)?;
+    let mut changed = table.tasks.clone();
+    for (task, record) in changed.iter_mut().zip(&answer.records) {
         task.flag = record.flag;
     }
-    put(&table, buffer, start)
+    write_at(table.cores, table.policy, &changed, buffer, start)
 }
 
-/// Too little room from the start place, or a start past the buffer's end, is 16 with place 0.
-fn put(table: &Table, buffer: &mut [u8], start: usize) -> Result<usize, Refusal> {
-    let need = 11 + 31 * table.tasks.len();
-    if start > buffer.len() || buffer.len() - start < need {
+/// Refusal 16, place 0: the start lies past the buffer's end, or there is too little room from it.
+fn check_buffer(n: usize, size: usize, start: usize) -> Result<(), Refusal> {
+    if start > size {
         return refuse(16, 0);
     }
-    let head = [0x01, table.cores as u8, table.policy as u8, table.tasks.len() as u8];
-    let mut end = put_line(&head, buffer, start);
-    for task in &table.tasks {
-        end = put_line(&task_bytes(task), buffer, end);
+    let room = size - start;
+    if room < HEAD_LINE + n * TASK_LINE {
+        return refuse(16, 0);
     }
-    Ok(end)
+    Ok(())
 }
 
-/// One line, and the place after it.
-fn put_line(bytes: &[u8], buffer: &mut [u8], at: usize) -> usize {
-    let text = line(bytes);
-    buffer[at..at + text.len()].copy_from_slice(&text);
-    at + text.len()
+// ---------------------------------------------------------------- frames
+
+/// A head frame before its check: 01, cores, policy, n.
+fn head_bytes(cores: u32, policy: u32, n: usize) -> Vec<u8> {
+    vec![0x01, cores as u8, policy as u8, n as u8]
+}
+
+/// A task frame before its check: 02, flag, T, C, D.
+fn task_bytes(task: &Task) -> Vec<u8> {
+    let mut bytes = vec![0x02, task.flag as u8];
+    for number in [task.period, task.cost, task.deadline] {
+        bytes.extend(four_bytes(number));
+    }
+    bytes
+}
+
+/// 4 bytes, highest first.
+fn four_bytes(number: u32) -> [u8; 4] {
+    [0x100_0000, 0x1_0000, 0x100, 1].map(|unit| (number / unit % 256) as u8)
+}
+
+/// The byte with which the bytes of the frame sum to 0 modulo 256.
+fn check_byte(bytes: &[u8]) -> u8 {
+    let sum: u32 = bytes.iter().map(|&byte| u32::from(byte)).sum();
+    ((256 - sum % 256) % 256) as u8
+}
+
+// ---------------------------------------------------------------- lines
+
+/// Writes one frame with its check as a line at the front of this part of the buffer. What is given back is
+/// the part that starts after the line.
+fn write_frame<'a>(part: &'a mut [u8], bytes: &[u8]) -> &'a mut [u8] {
+    let mut rest = part;
+    for &byte in bytes {
+        rest = write_byte(rest, byte);
+    }
+    rest = write_byte(rest, check_byte(bytes));
+    put(rest, LINE_END)
+}
+
+/// Two digits to a byte.
+fn write_byte(part: &mut [u8], byte: u8) -> &mut [u8] {
+    let rest = put(part, DIGITS[usize::from(byte / 16)]);
+    put(rest, DIGITS[usize::from(byte % 16)])
+}
+
+/// One character at the front; the part after it is given back.
+fn put(part: &mut [u8], character: u8) -> &mut [u8] {
+    let (front, rest) = part.split_at_mut(1);
+    front[0] = character;
+    rest
 }

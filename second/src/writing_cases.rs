@@ -125,16 +125,21 @@ fn size(table: &Table) -> usize {
     11 + 31 * table.tasks.len()
 }
 
-/// All writing cases, in order.
+/// All writing cases of the stored batch, in order.
 pub fn cases() -> Vec<Case> {
+    cases_from(SEED, 1500)
+}
+
+/// Writing cases, with so many random tables from this seed and as many with a fault.
+pub fn cases_from(seed: u64, tables: u32) -> Vec<Case> {
     let mut all = Vec::new();
-    let mut random = Random::new(SEED);
+    let mut random = Random::new(seed);
     for n in [1, 2, 31, 32] {
         for (start, room) in places(size(&many(n)), 5, 3) {
             all.push(Case::of(&many(n), start, room));
         }
     }
-    for _ in 0..1500 {
+    for _ in 0..tables {
         let table = small_table(&mut random, 3, 16, 1_000_000);
         let (before, after) = (random.small(0, 9) as usize, random.small(0, 9) as usize);
         let at = places(size(&table), before, after);
@@ -172,16 +177,21 @@ fn faulty(random: &mut Random, table: &Table, start: usize, room: usize) -> Case
     case
 }
 
-/// All cases of plans to be changed, in order.
+/// All cases of plans to be changed of the stored batch, in order.
 pub fn changes() -> Vec<Change> {
+    changes_from(SEED + 1, 1000)
+}
+
+/// Plans to be changed, with so many random ones from this seed, of which some are damaged.
+pub fn changes_from(seed: u64, plans: u32) -> Vec<Change> {
     let mut all = Vec::new();
-    let mut random = Random::new(SEED + 1);
+    let mut random = Random::new(seed);
     for (_, table) in lettered() {
         for (start, room) in places(size(&table), 4, 2) {
             all.push(Change { text: write(&table), start, room });
         }
     }
-    for _ in 0..1000 {
+    for _ in 0..plans {
         let table = small_table(&mut random, 4, 2, 12);
         let at = places(size(&table), random.small(0, 6) as usize, random.small(0, 6) as usize);
         let (start, room) = if random.once_in(4) { random.pick(&at) } else { at[0] };

@@ -1,4 +1,5 @@
--- Two results which a promise of `jobs` allows are equal: the yes, and both of the caller's lists afterwards.
+-- Two results which a promise of `jobs` or `writing` allows are equal: the yes, and both of the caller's
+-- lists afterwards.
 -- The statements are over the promises as a caller reads them. Assumes nothing.
 use Prim.Native.Nat.{ℕ}
 use mathlib.Core.Path.{_≡_}
@@ -9,6 +10,7 @@ use denote.Ref.{now}
 use denote.Triple.Clauses.{AtExit}
 use Rattle.base.proofs.Unique.{Only, only}
 use Rattle.planner.specs.declared.Done.{Done}
+use Rattle.wrote.proofs.Unique.{wrote-only}
 use Rattle.eskihrum.specs.Jobs.{Told}
 use Rattle.eskihrum.proofs.jobs.eskihrum_abi.Kinds as abi
 use Rattle.eskihrum.proofs.jobs.eskihrum_abi.Reads as abi-reads
@@ -20,6 +22,10 @@ use Rattle.eskihrum.proofs.jobs.eskihrum_flat_test_tasks.Kinds as test-
 use Rattle.eskihrum.proofs.jobs.eskihrum_flat_test_tasks.Reads as test-tasks-reads
 use Rattle.eskihrum.proofs.jobs.eskihrum_flat_force_tasks.Kinds as force-tasks
 use Rattle.eskihrum.proofs.jobs.eskihrum_flat_force_tasks.Reads as force-tasks-reads
+use Rattle.eskihrum.proofs.writing.eskihrum_flat_write_tasks.Kinds as write-tasks
+use Rattle.eskihrum.proofs.writing.eskihrum_flat_write_tasks.Reads as write-tasks-reads
+use Rattle.eskihrum.proofs.writing.eskihrum_flat_write_changed.Kinds as write-changed
+use Rattle.eskihrum.proofs.writing.eskihrum_flat_write_changed.Reads as write-changed-reads
 
 told-only : (d : Done) (old ans : List ℕ) {r r′ : ℕ} {new new′ ans₁ ans₂ : List ℕ} → Told d old ans r new ans₁
     → Told d old ans r′ new′ ans₂ → (r ≡ r′) × (new ≡ new′) × (ans₁ ≡ ans₂)
@@ -56,3 +62,16 @@ pub eskihrum-flat-force-tasks-only : (κs : Lfts 3) (a : Dens κs force-tasks.ps
     → (x ≡ y) × (now (s .1 .1 .1 .0) ≡ now (s′ .1 .1 .1 .0))
     × (now (s .1 .1 .1 .1 .0) ≡ now (s′ .1 .1 .1 .1 .0))
 eskihrum-flat-force-tasks-only κs a x y s s′ p q = told-only _ _ _ p q
+
+pub eskihrum-flat-write-tasks-only : (κs : Lfts 3) (a : Dens κs write-tasks.ps)
+    (x y : resT write-tasks.r κs .Denot) (s s′ : AtExit (endedOf 3 write-tasks.ps write-tasks.r) κs)
+    → write-tasks-reads.Post κs a x s → write-tasks-reads.Post κs a y s′
+    → (x ≡ y) × (now (s .1 .1 .1 .0) ≡ now (s′ .1 .1 .1 .0))
+    × (now (s .1 .1 .1 .1 .1 .0) ≡ now (s′ .1 .1 .1 .1 .1 .0))
+eskihrum-flat-write-tasks-only κs a x y s s′ p q = wrote-only p q
+
+pub eskihrum-flat-write-changed-only : (κs : Lfts 3) (a : Dens κs write-changed.ps)
+    (x y : resT write-changed.r κs .Denot) (s s′ : AtExit (endedOf 3 write-changed.ps write-changed.r) κs)
+    → write-changed-reads.Post κs a x s → write-changed-reads.Post κs a y s′
+    → (x ≡ y) × (now (s .1 .0) ≡ now (s′ .1 .0)) × (now (s .1 .1 .1 .0) ≡ now (s′ .1 .1 .1 .0))
+eskihrum-flat-write-changed-only κs a x y s s′ p q = wrote-only p q

@@ -16,7 +16,7 @@ use Rattle.told.specs.Told.{yesOf, toldOf, toldAfter}
 
 -- what eskihrum_abi says: it goes up by one with each further call or number of an answer
 abbrev pub abi : ℕ
-abi = 1
+abi = 2
 
 -- an answer, its records and its numbers: in r the yes, in new and told′ the caller's lists afterwards
 pub record Told (d : Done) (old told : List ℕ) (r : ℕ) (new told′ : List ℕ) : Type 0 where

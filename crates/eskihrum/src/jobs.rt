@@ -27,7 +27,7 @@ fn tell(records: &mut [u32], answer: &mut [u32], d: Done) -> u32
 pub extern "C" fn eskihrum_abi() -> u32
     ensures { λ r. ⌜ r ≡ abi ⌝ }
 {
-    1
+    2
 }
 
 // The test of a plan text.

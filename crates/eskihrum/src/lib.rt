@@ -1,6 +1,8 @@
 // The planner for C and Rust: the two jobs on a plan text and on a flat table of numbers, with flat records.
-// Here are the two calls whose answer is one number; `jobs` has a function for each job, with a lent answer.
+// Here are the two calls whose answer is one number; `jobs` has a function for each job with a lent answer,
+// and `writing` those that write a plan.
 mod jobs;
+mod writing;
 
 ghost use mathlib.Core.Path.{_≡_};
 ghost use Prim.Native.Nat.{_+_, _*_};

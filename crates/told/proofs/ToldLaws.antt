@@ -64,10 +64,10 @@ yes-third a n = refl
 
 -- the numbers of each case of an answer
 pub given-told : {a : Answer} {v : Verdict} (n : ℕ) {x : ℕ} {l : List ℕ} → a ≡ Given v → x ≡ asNumber (v .yes)
-    → l ≡ fields 0 0 x (v .forced) (v .passes) n → l ≡ toldOf a n
+    → l ≡ fields 0 0 x (v .forced) (v .passes) n 0 → l ≡ toldOf a n
 given-told {v = v} n e ex el =
-    rw e (el ∙ ap (λ y. fields 0 0 y (v .forced) (v .passes) n) ex)
+    rw e (el ∙ ap (λ y. fields 0 0 y (v .forced) (v .passes) n 0) ex)
 
 pub refused-told : {a : Answer} {why : Refusal} {p : ℕ} (n : ℕ) {l : List ℕ} → a ≡ Refused why p
-    → l ≡ fields (why .number) (why .place) 0 0 p n → l ≡ toldOf a n
+    → l ≡ fields (why .number) (why .place) 0 0 p n 0 → l ≡ toldOf a n
 refused-told n e el = rw e el

@@ -3,10 +3,15 @@
 use mathlib.Core.Path.{refl}
 use denote.Ref.{now}
 use Rattle.base.proofs.Unique.{only, Only, OnlyWith}
+use Rattle.told.proofs.fields_of.Kinds as fields-of
+use Rattle.told.proofs.fields_of.Reads as fields-of-reads
 use Rattle.told.proofs.told_of.Kinds as told-of
 use Rattle.told.proofs.told_of.Reads as told-of-reads
 use Rattle.told.proofs.put_told.Kinds as put-told
 use Rattle.told.proofs.put_told.Reads as put-told-reads
+
+pub fields-of-only : Only 0 fields-of.ps fields-of.r fields-of-reads.Post
+fields-of-only κs a x y s s′ p q = only p q
 
 pub told-of-only : Only 0 told-of.ps told-of.r told-of-reads.Post
 told-of-only κs a x y s s′ p q = only p q

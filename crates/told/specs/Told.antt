@@ -4,11 +4,12 @@
 --   2            yes: 1 where every task has a bound, 0 where not, and in a refusal
 --   3, 4         the number of forced tasks, and of passes
 --   5            the number of records that are written: n, or 0 in a refusal
---   6 to 15      kept for later, 0 now
+--   9, 10        the end place of what was written into a buffer, its low and its high 32 bits
+--   the others   kept for later, 0 now
 --
 -- A list that is shorter gets the first of them, and what stands past the sixteenth number stays.
 -- Assumes nothing.
-use Prim.Native.Nat.{ℕ, min}
+use Prim.Native.Nat.{ℕ, _/_, _%_, min}
 use mathlib.Core.Bool.{Bool}
 use mathlib.Core.List.{List, [], _∷_, _++_}
 use lib.ListN.{length, take, drop}
@@ -17,9 +18,10 @@ use Rattle.planner.specs.declared.Answer.{Answer}
 use Rattle.planner.specs.Answers.{valuesOf}
 
 -- the numbers in their order
-unfoldable pub fields : (number place passing forced passes records : ℕ) → List ℕ
-fields number place passing forced passes records =
-    number ∷ place ∷ passing ∷ forced ∷ passes ∷ records ∷ 0 ∷ 0 ∷ 0 ∷ 0 ∷ 0 ∷ 0 ∷ 0 ∷ 0 ∷ 0 ∷ 0 ∷ []
+unfoldable pub fields : (number place passing forced passes records end : ℕ) → List ℕ
+fields number place passing forced passes records end =
+    number ∷ place ∷ passing ∷ forced ∷ passes ∷ records ∷ 0 ∷ 0 ∷ 0 ∷ end % 4294967296 ∷ end / 4294967296 ∷ 0
+    ∷ 0 ∷ 0 ∷ 0 ∷ 0 ∷ []
 
 abbrev pub asNumber : Bool → ℕ
 asNumber b = pick b 1 0
@@ -32,7 +34,7 @@ yesOf a = asNumber (valuesOf 0 a .yes)
 abbrev pub toldOf : Answer → ℕ → List ℕ
 toldOf a n =
     let v = valuesOf 0 a in
-    fields (v .number) (v .place) (asNumber (v .yes)) (v .forced) (v .passes) n
+    fields (v .number) (v .place) (asNumber (v .yes)) (v .forced) (v .passes) n 0
 
 -- the caller's list afterwards: as many of the numbers as it has room for, and its own from there on
 unfoldable pub toldAfter : List ℕ → List ℕ → List ℕ

@@ -7,8 +7,16 @@ ghost use Rattle.told.specs.Told.{asNumber, fields, toldOf, toldAfter};
 use planner::Answer;
 
 // The numbers of an answer, in the order of the lent list; what is kept for later is 0.
-fn fields_of(number: u32, place: u32, yes: u32, forced: u32, passes: u32, records: u32) -> [u32; 16]
-    ensures { λ r. ⌜ r ≡ fields number place yes forced passes records ⌝ }
+pub fn fields_of(
+    number: u32,
+    place: u32,
+    yes: u32,
+    forced: u32,
+    passes: u32,
+    records: u32,
+    end: usize,
+) -> [u32; 16]
+    ensures { λ r. ⌜ r ≡ fields number place yes forced passes records end ⌝ }
 {
     [
         number,
@@ -20,8 +28,8 @@ fn fields_of(number: u32, place: u32, yes: u32, forced: u32, passes: u32, record
         0,
         0,
         0,
-        0,
-        0,
+        (end % 4294967296) as u32,
+        (end / 4294967296) as u32,
         0,
         0,
         0,
@@ -42,8 +50,16 @@ pub fn told_of(answer: Answer, records: u32) -> [u32; 16]
     ensures { λ r. ⌜ r ≡ toldOf answer records ⌝ }
 {
     match answer {
-        Answer::Given(v) => fields_of(0, 0, as_number(v.yes), v.forced, v.passes, records),
-        Answer::Refused { why, passes } => fields_of(why.number, why.place, 0, 0, passes, records),
+        Answer::Given(v) => fields_of(0, 0, as_number(v.yes), v.forced, v.passes, records, 0),
+        Answer::Refused { why, passes } => fields_of(
+            why.number,
+            why.place,
+            0,
+            0,
+            passes,
+            records,
+            0,
+        ),
     }
 }
 

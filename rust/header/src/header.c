@@ -33,6 +33,29 @@ void header_force_tasks(uint32_t cores, uint32_t policy, const eskihrum_task *ta
     hand_on(eskihrum_force_tasks(cores, policy, tasks, n, records, room), told);
 }
 
+/* What a writer answers: the end place is handed on by itself. */
+size_t header_write_tasks(uint32_t cores, uint32_t policy, const eskihrum_task *tasks, size_t n,
+                          uint8_t *buffer, size_t bytes, size_t start, uint32_t told[FIELDS]) {
+    eskihrum_answer answer = eskihrum_write_tasks(cores, policy, tasks, n, buffer, bytes, start);
+    hand_on(answer, told);
+    return eskihrum_end(answer);
+}
+
+size_t header_write_changed(const uint8_t *text, size_t text_bytes, uint8_t *buffer, size_t bytes,
+                            size_t start, uint32_t told[FIELDS]) {
+    eskihrum_answer answer = eskihrum_write_changed(text, text_bytes, buffer, bytes, start);
+    hand_on(answer, told);
+    return eskihrum_end(answer);
+}
+
+/* An end place that has more than 32 bits, from its two halves. */
+size_t header_end(uint32_t low, uint32_t high) {
+    eskihrum_answer answer = eskihrum_no_answer();
+    answer.end_low = low;
+    answer.end_high = high;
+    return eskihrum_end(answer);
+}
+
 /* The older calls, their answer taken apart by the macros. */
 static uint32_t job_of(int force) {
     return force ? ESKIHRUM_FORCE : ESKIHRUM_TEST;
@@ -62,7 +85,9 @@ uint32_t header_reserved(const uint8_t *text, size_t bytes, eskihrum_record *rec
     eskihrum_answer answer = eskihrum_force_plan(text, bytes, records, room);
     uint32_t all = 0;
     for (size_t i = 0; i < sizeof answer.reserved / sizeof answer.reserved[0]; i++) all |= answer.reserved[i];
-    return all;
+    for (size_t i = 0; i < sizeof answer.reserved2 / sizeof answer.reserved2[0]; i++)
+        all |= answer.reserved2[i];
+    return all | answer.end_low | answer.end_high;
 }
 
 const char *header_text(uint32_t number) {
@@ -91,6 +116,10 @@ uint32_t header_non_preemptive(void) {
 
 size_t header_most(void) {
     return ESKIHRUM_TASKS;
+}
+
+size_t header_plan_bytes(void) {
+    return ESKIHRUM_PLAN_BYTES;
 }
 
 /* Whether the archive serves this header. */

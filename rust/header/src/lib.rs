@@ -40,6 +40,26 @@ extern "C" {
         room: usize,
         told: *mut Told,
     );
+    fn header_write_tasks(
+        cores: u32,
+        policy: u32,
+        tasks: *const Task,
+        n: usize,
+        buffer: *mut u8,
+        bytes: usize,
+        start: usize,
+        told: *mut Told,
+    ) -> usize;
+    fn header_write_changed(
+        text: *const u8,
+        text_bytes: usize,
+        buffer: *mut u8,
+        bytes: usize,
+        start: usize,
+        told: *mut Told,
+    ) -> usize;
+    fn header_end(low: u32, high: u32) -> usize;
+    fn header_plan_bytes() -> usize;
     fn header_plan(
         force: c_int,
         text: *const u8,
@@ -116,6 +136,33 @@ pub fn counted(
     // SAFETY: the lists are lent for the call alone, and hold as many things as the call looks at.
     unsafe { run(cores, policy, start(tasks), n, start_mut(records), room, &mut told) };
     told
+}
+
+/// A list of tasks as a plan, from a place of the buffer on: the answer, and its end place.
+pub fn write_tasks(cores: u32, policy: u32, tasks: &[Task], buffer: &mut [u8], from: usize) -> (Told, usize) {
+    let (n, bytes) = (tasks.len(), buffer.len());
+    let mut told = Told::default();
+    // SAFETY: the lists are lent for the call alone.
+    let end = unsafe {
+        header_write_tasks(cores, policy, start(tasks), n, start_mut(buffer), bytes, from, &mut told)
+    };
+    (told, end)
+}
+
+/// A plan as changed, from a place of the buffer on: the answer, and its end place.
+pub fn write_changed(text: &[u8], buffer: &mut [u8], from: usize) -> (Told, usize) {
+    let bytes = buffer.len();
+    let mut told = Told::default();
+    // SAFETY: the lists are lent for the call alone.
+    let end =
+        unsafe { header_write_changed(start(text), text.len(), start_mut(buffer), bytes, from, &mut told) };
+    (told, end)
+}
+
+/// An end place of these two halves, and the most bytes of a plan.
+pub fn places(low: u32, high: u32) -> (usize, usize) {
+    // SAFETY: they take numbers.
+    unsafe { (header_end(low, high), header_plan_bytes()) }
 }
 
 /// The older call on a plan, taken apart by the macros.

@@ -1,7 +1,9 @@
 //! The header's functions and macros against the second program.
 
-use eskihrum_header::{older_plan, older_tasks, plan, tasks, Record, Task, Told};
+use eskihrum_header::{older_plan, older_tasks, plan, tasks, write_changed, write_tasks};
+use eskihrum_header::{Record, Task, Told};
 use second::compare::{short, Compared, Planner, FORCE};
+use second::compare_writing::{compared, Said, Writer};
 
 /// The second program's one number for an answer: number, place, forced and passes a byte each, then yes.
 fn word(told: Told) -> u64 {
@@ -33,9 +35,32 @@ fn wrapped_text(job: u32, text: &[u8], records: &mut [u32]) -> u64 {
     as_records(records, |room| plan(job == FORCE, text, room))
 }
 
+fn listed(numbers: &[u32]) -> Vec<Task> {
+    numbers.chunks(4).map(|four| [four[0], four[1], four[2], four[3]]).collect()
+}
+
 fn wrapped_list(job: u32, cores: u32, policy: u32, numbers: &[u32], records: &mut [u32]) -> u64 {
-    let list: Vec<Task> = numbers.chunks(4).map(|four| [four[0], four[1], four[2], four[3]]).collect();
-    as_records(records, |room| tasks(job == FORCE, cores, policy, &list, room))
+    as_records(records, |room| tasks(job == FORCE, cores, policy, &listed(numbers), room))
+}
+
+/// The end place, or the refusal; no other field says anything.
+fn said((told, end): (Told, usize)) -> Said {
+    let Told { records, passes, forced, yes, place, number } = told;
+    assert_eq!((records, forced, yes), (0, 0, u32::from(number == 0)), "what a writer says");
+    if number == 0 {
+        assert_eq!((place, passes), (0, 0), "an end without a refusal");
+        return Ok(end);
+    }
+    assert_eq!(end, 0, "a refusal without an end");
+    Err((number, place, passes))
+}
+
+fn wrapped_write(cores: u32, policy: u32, numbers: &[u32], buffer: &mut [u8], start: usize) -> Said {
+    said(write_tasks(cores, policy, &listed(numbers), buffer, start))
+}
+
+fn wrapped_change(text: &[u8], buffer: &mut [u8], start: usize) -> Said {
+    said(write_changed(text, buffer, start))
 }
 
 fn older_text(job: u32, text: &[u8], records: &mut [u32]) -> u64 {
@@ -61,4 +86,10 @@ fn header_functions_agree() {
 #[test]
 fn header_macros_agree() {
     told("header's macros", 307, short(&Planner { text: older_text, list: older_list }, 307));
+}
+
+#[test]
+fn header_writers_agree() {
+    let writer = Writer { tasks: wrapped_write, changed: wrapped_change };
+    told("header's writers", 310, compared(&writer, 310, 4_000));
 }

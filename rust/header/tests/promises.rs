@@ -2,7 +2,7 @@
 //! headers of checks/wrong.
 
 use eskihrum_header::{advice, counted, numbers, older_plan, older_tasks, plan, reserved, tasks, text};
-use eskihrum_header::{Record, Task, Told};
+use eskihrum_header::{places, write_changed, write_tasks, Record, Task, Told};
 
 const B: &[u8] = include_bytes!("../../../examples/b.plan");
 /// The longest plan: 32 tasks in 1,003 bytes.
@@ -97,9 +97,50 @@ fn the_largest_counts_arrive_whole() {
     assert_eq!(older_tasks(true, 1, FP, &too_much.concat(), &mut [7; 96]), refused(14, 32, 33));
 }
 
+/// Cases a and b as plans: document 01's lines, and those of the same table with both flags 0.
+const A_TEXT: &[u8] = b"01010102FB\n02010000000C000000040000000CE1\n0201000000180000000900000012CA\n";
+const B_TEXT: &[u8] = b"01010102FB\n02000000000C000000040000000CE2\n0200000000180000000900000012CB\n";
+
+/// The text in the middle, the bytes around it, and the end place; 16 where one byte is missing.
+#[test]
+fn writers_write() {
+    for (text, by_text) in [(A_TEXT, false), (B_TEXT, true)] {
+        let run = |buffer: &mut [u8], from| match by_text {
+            true => write_changed(A_TEXT, buffer, from),
+            false => write_tasks(1, FP, &TASKS, buffer, from),
+        };
+        let mut buffer = [b'#'; 80];
+        assert_eq!(run(&mut buffer, 3), (given(1, 0, 0, 0), 76));
+        assert_eq!(buffer[..], [b"###", text, b"####"].concat());
+        assert_eq!(run(&mut [0; 73], 0), (given(1, 0, 0, 0), 73));
+        let mut buffer = [b'#'; 80];
+        for (room, from) in [(72, 0), (75, 3), (0, 0), (80, 80), (80, 81), (80, usize::MAX)] {
+            assert_eq!(run(&mut buffer[..room], from), (refused(16, 0, 0), 0));
+        }
+        assert_eq!(buffer, [b'#'; 80]);
+    }
+}
+
+#[test]
+fn writers_refuse() {
+    let mut buffer = [b'#'; 80];
+    assert_eq!(write_tasks(17, FP, &TASKS, &mut buffer, 0), (refused(5, 0, 0), 0));
+    assert_eq!(write_tasks(1, 2, &TASKS, &mut buffer, 0), (refused(6, 0, 0), 0));
+    assert_eq!(write_tasks(1, FP, &[], &mut buffer, 99), (refused(7, 0, 0), 0));
+    assert_eq!(write_tasks(1, FP, &[TASKS[0]; 33], &mut buffer, 0), (refused(7, 0, 0), 0));
+    assert_eq!(write_tasks(1, EDF, &[TASKS[0], [1, 24, 0, 18]], &mut buffer, 0), (refused(11, 2, 0), 0));
+    assert_eq!(write_changed(&B[..B.len() - 1], &mut buffer, 0), (refused(1, 3, 0), 0));
+    assert_eq!(write_changed(I, &mut buffer, 99), (refused(14, 2, 4), 0));
+    assert_eq!(buffer, [b'#'; 80]);
+    assert_eq!(places(7, 0), (7, LONGEST.len()));
+    assert_eq!(places(1, 2).0, (2 << 32) + 1);
+}
+
 /// A list of no length may be NULL, on every side.
 #[test]
 fn nothing_may_be_null() {
+    assert_eq!(write_tasks(1, FP, &TASKS, &mut [], 0), (refused(16, 0, 0), 0));
+    assert_eq!(write_changed(b"", &mut [], 0), (refused(1, 1, 0), 0));
     for force in [false, true] {
         assert_eq!(plan(force, b"", &mut []), refused(1, 1, 0));
         assert_eq!(tasks(force, 1, FP, &[], &mut []), refused(7, 0, 0));
