@@ -24,7 +24,7 @@ def declares(line, name):
     """Whether a line of a source declares the public name; a function may be written CRATE::NAME."""
     name = re.escape(name.split("::")[-1])
     law = rf"\s*(?:unfoldable |abbrev )?pub (?:record |data )?{name}(?=[\s:]|$)"
-    return bool(re.match(law, line) or re.match(rf"\s*pub (?:extern \"C\" )?fn {name}\(", line))
+    return bool(re.match(law, line) or re.match(rf"\s*pub (?:extern \"C\" )?fn {name}[(<]", line))
 
 
 def links(fix):
@@ -156,7 +156,7 @@ def functions():
         if not (base / "proofs").is_dir() or (base / "stdout").is_file():
             continue
         text = source.read_text(encoding="utf-8")
-        for name in re.findall(r"^pub (?:extern \"C\" )?fn (\w+)\(", text, re.M):
+        for name in re.findall(r"^pub (?:extern \"C\" )?fn (\w+)[(<]", text, re.M):
             if f"{crate}::{name}" not in promised:
                 yield f"docs/CLAIMS.md: no row has the promise of {crate}::{name}"
             if wrong.get(f"{crate}::{name}", 0) < 2:

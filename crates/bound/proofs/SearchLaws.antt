@@ -1,42 +1,113 @@
--- A legal table is a system in the ranges, and the least length of the search of task k is the model's.
+-- The search for task k over the rows: what it may ask for, and that its answer is the bound.
 -- Assumes nothing.
-use Prim.Native.Nat.{ℕ, _+_, _/_, _≤_}
+use Prim.Native.Nat.{ℕ, zero, suc, _+_, _-_, _≤_, _<_}
 use native.Mathlib.Omega.{arith}
-use mathlib.Core.Path.{_≡_, ap, ap₂, _∙_}
-use lib.Dec.{leb}
-use Rattle.base.specs.Least.{least}
-use Rattle.base.proofs.LeastLaws.{least-same}
-use Rattle.model.specs.Bound.{System, from, B, satisfies, leastLength}
-use Rattle.table.specs.declared.Table.{Table}
-use Rattle.table.specs.Table.{systemOf, LegalTable}
-use Rattle.bound.specs.declared.Search.{Search}
-use Rattle.bound.specs.Sums.{lineAt, leastIn, Ranged, SearchOf}
+use mathlib.Core.Path.{_≡_, refl, sym, ap, ap₂, _∙_}
+use mathlib.Core.List.{List}
+use borrow.Author.Tests.{ltb-false}
+use Rattle.base.specs.Rows.{at}
+use Rattle.model.specs.Bound.{System, byFlag, plus, bound}
+use Rattle.model.proofs.BoundLaws.{bound-range}
+use Rattle.rows.specs.declared.Head.{Head}
+use Rattle.rows.specs.Held.{systemIn, LegalRows}
+use Rattle.rows.proofs.HeldLaws.{rows-legal}
+use Rattle.search.specs.Search.{leastQ, Searchable, NoneBelow}
+use Rattle.caps.specs.Caps.{Caps}
+use Rattle.bound.specs.Ahead.{ahead, NoneSooner}
+use Rattle.bound.proofs.QLaws.{Holds, line-is, bound-by-q}
 
-pub table-ranged : {t : Table} → LegalTable t → Ranged (systemOf t)
-table-ranged legal = record {
-  legal = record {
-    cores = legal .some-core;
-    time = λ i lt. legal .each i lt .some;
-    short = λ i lt. legal .each i lt .cost;
-    period = λ i lt. legal .each i lt .deadline;
-  };
-  cores = legal .cores;
-  count = legal .count;
-  period = λ i lt. legal .each i lt .period;
+-- nothing is known of a q of 0
+pub none-at-first : (s : System) (fl : ℕ → ℕ) (k : ℕ) → NoneSooner s fl k 0
+none-at-first s fl k = record {
+  room = omega arith;
+  fails = λ q a b. absurd (let z : ⊥ = omega arith in z);
 }
 
-pub search-least : {s : System} {fl : ℕ → ℕ} {k : ℕ} {r : Search} → SearchOf s fl k r
-    → leastIn r ≡ leastLength s fl k
-unfolding leastIn leastLength
-search-least {s} {fl} {k} {r} is =
-    least-same (lineAt r) (satisfies s fl k) (r .lengths) (r .first)
-    (λ j low high. line j (omega (arith, is .first)) (omega (arith, is .sound .end)))
-    ∙ ap₂ (least (satisfies s fl k)) (is .lengths) (is .first)
+module _ {h : Head} {inverse rest cost reach : List ℕ} (legal : LegalRows h inverse rest cost reach)
+    (fl : ℕ → ℕ) (k : ℕ) (inside : k < h .n) {caps : List ℕ} {used : ℕ}
+    (are : Caps (systemIn h rest cost reach) fl k caps used)
   where
-    line : (j : ℕ) → from s fl k ≤ j → j ≤ 1000000 → lineAt r j ≡ satisfies s fl k j
-    line j low high =
-        unfold lineAt in
-        unfold satisfies in
-        unfold B in
-        ap (λ x. leb x j)
-        (ap₂ (λ x y. x + y) (is .first) (ap₂ (λ x y. x / y) (is .sums j low high) (is .cores)))
+    holds : Holds (systemIn h rest cost reach) rest cost reach
+    holds = record {
+      period = λ i lt. refl;
+      time = λ i lt. refl;
+      window = λ i lt. omega arith;
+    }
+
+    span : systemIn h rest cost reach .D k - systemIn h rest cost reach .C k + 1 ≡ at reach k + 1
+    span = omega arith
+
+    module _ {a f : ℕ} (read : f ≡ fl k) (made : a ≡ byFlag f 0 (at cost k - 1)) where
+      ahead-is : a ≡ ahead (systemIn h rest cost reach) fl k
+      unfolding ahead
+      ahead-is = made ∙ ap (λ x. byFlag x 0 (at cost k - 1)) read
+
+      ahead-small : a ≤ at cost k - 1
+      ahead-small = omega (arith, made, go f)
+        where
+          go : (f : ℕ) → byFlag f 0 (at cost k - 1) ≤ at cost k - 1
+          go zero = omega arith
+          go (suc f) = omega arith
+
+      pub rows-searchable : Searchable inverse rest cost reach caps used (h .cores) a (at reach k + 1)
+      rows-searchable = record {
+        few = omega (arith, are .within, legal .count);
+        some-core = legal .some-core;
+        cores = legal .cores;
+        range =
+            omega (
+              arith,
+              ahead-small,
+              legal .each k inside .time,
+              legal .each k inside .deadline,
+              legal .each k inside .period,
+            );
+        each = λ i lt.
+            let p = legal .each i (omega (arith, are .within)) in
+            record {
+              time = p .time;
+              period = p .period;
+              near = omega (arith, p .deadline, p .period);
+              divides = p .divides;
+            };
+        caps = λ i lt. are .small i (omega (arith, are .within));
+      }
+
+      pub rows-sooner : {from : ℕ} → NoneSooner (systemIn h rest cost reach) fl k from
+          → NoneBelow rest cost reach caps used (h .cores) a (at reach k + 1) from
+      rows-sooner none = rw ahead-is (record {
+        room = omega (arith, none .room, span);
+        fails = λ q low lt.
+            ltb-false _ _
+            (sym
+            (line-is (systemIn h rest cost reach) fl k (rows-legal legal) inside holds are q low
+            (omega (arith, none .room, span)))
+            ∙ none .fails q low lt);
+      })
+
+      module _ {q : ℕ} (found : q ≡ leastQ rest cost reach caps used (h .cores) a (at reach k + 1)) where
+        q-bound : plus (at cost k - 1) q ≡ bound (systemIn h rest cost reach) fl k
+        q-bound =
+            ap (plus (at cost k - 1))
+            (found ∙ ap₂ (leastQ rest cost reach caps used (h .cores)) ahead-is (sym span))
+            ∙ sym (bound-by-q (systemIn h rest cost reach) fl k (rows-legal legal) inside holds are)
+
+        pub search-none : q ≡ 0 → 0 ≡ bound (systemIn h rest cost reach) fl k
+        search-none e = sym (ap (plus (at cost k - 1)) e) ∙ q-bound
+
+        pub search-found : (q ≡ 0 → ⊥) → q + (at cost k - 1) ≡ bound (systemIn h rest cost reach) fl k
+        search-found some = go q some ∙ q-bound
+          where
+            go : (x : ℕ) → (x ≡ 0 → ⊥) → x + (at cost k - 1) ≡ plus (at cost k - 1) x
+            go zero some = absurd (some refl)
+            go (suc x) some = refl
+
+        pub search-small : (q ≡ 0 → ⊥) → q + (at cost k - 1) ≤ 1000000
+        search-small some =
+            omega (
+              arith,
+              search-found some,
+              bound-range (systemIn h rest cost reach) fl k (legal .each k inside .time) (omega arith) .1,
+              legal .each k inside .deadline,
+              legal .each k inside .period,
+            )

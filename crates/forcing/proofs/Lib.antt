@@ -1,2 +1,3 @@
+pub mod RowTests
 pub mod PassingLaws
 pub mod Unique

@@ -129,22 +129,6 @@ bound-range s fl k pos legal = go (fl k)
         plus-range 0 (least (satisfies s fl k) (s .D k - s .C k + 1) (s .C k)) (s .C k) (s .D k)
         (λ h. omega (arith, least-range (satisfies s fl k) (s .D k - s .C k + 1) (s .C k) h))
 
--- the first length is at most C, the least one at most D
-pub from-small : (s : System) (fl : ℕ → ℕ) (k : ℕ) → 0 < s .C k → from s fl k ≤ s .C k
-unfolding from
-from-small s fl k pos = go (fl k)
-  where
-    go : (f : ℕ) → byFlag f 1 (s .C k) ≤ s .C k
-    go zero = pos
-    go (suc f) = le-refl _
-
-pub leastLength-small : (s : System) (fl : ℕ → ℕ) (k : ℕ) → 0 < s .C k → s .C k ≤ s .D k
-    → leastLength s fl k ≤ s .D k
-unfolding leastLength
-leastLength-small s fl k pos legal =
-    ⊎-elim (λ f. omega (arith, f .high, from-small s fl k pos)) (λ n. omega (arith, n .0))
-    (least-says (satisfies s fl k) (s .D k - s .C k + 1) (from s fl k))
-
 -- the bound from the least length
 module _ (s : System) (fl : ℕ → ℕ) (k l : ℕ) (e : l ≡ leastLength s fl k) where
   pub bound-none : l ≡ 0 → 0 ≡ bound s fl k

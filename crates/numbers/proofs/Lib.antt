@@ -1,2 +1,1 @@
-pub mod RaisingLaws
 pub mod Unique

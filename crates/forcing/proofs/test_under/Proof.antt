@@ -7,19 +7,25 @@ use borrow.Author.Needs.{needs}
 use Rattle.base.specs.Rows.{row}
 use Rattle.base.proofs.RowLaws.{fill-start, fill-step, fill-end}
 use Rattle.model.specs.Bound.{bound}
-use Rattle.table.specs.Table.{systemOf}
 use Rattle.flags.specs.Flags.{flagIn}
+use Rattle.rows.specs.Held.{systemIn}
+use Rattle.bound.proofs.SearchLaws.{none-at-first}
 use Rattle.forcing.proofs.test_under.Statement.{statement}
 use Rattle.forcing.proofs.test_under.Tie as tie
 
 abbrev Inv-loop : tie.InvT-loop
-Inv-loop t flags n bounds₀ k₀ bounds k = (k ≤ n) × (bounds ≡ row 0 (bound (systemOf t) (flagIn flags)) k)
+Inv-loop head inverse rest cost reach flags n bounds₀ k₀ bounds k =
+    (k ≤ n) × (bounds ≡ row 0 (bound (systemIn head rest cost reach) (flagIn flags)) k)
 
 abbrev μ-loop : tie.MeasureT-loop
-μ-loop t flags n bounds₀ k₀ bounds k = n - k
+μ-loop head inverse rest cost reach flags n bounds₀ k₀ bounds k = n - k
 
 loop-holds : tie.Need-loop-holds Inv-loop μ-loop
 loop-holds c = (omega arith, fill-start 0 _)
+
+bound-of-requires : tie.Need-bound-of-requires Inv-loop μ-loop
+bound-of-requires c κs =
+    (c .before .before .pre, c .loop-test .taken, none-at-first _ _ _)
 
 loop-again : tie.Need-loop-again Inv-loop μ-loop
 loop-again c =
@@ -34,5 +40,5 @@ returns c = fill-end 0 _ (c .before .loop .inv .1) (omega arith)
 pub test-under-spec : {M : Type 1} → statement M
 test-under-spec =
     tie.close
-    (tie.spec Inv-loop μ-loop loop-holds (λ c κs. search needs) (λ c. search needs) (λ c. search needs)
+    (tie.spec Inv-loop μ-loop loop-holds bound-of-requires (λ c. search needs) (λ c. search needs)
     (λ c. search needs) (λ c. search needs) loop-again returns)

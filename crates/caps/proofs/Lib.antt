@@ -1,0 +1,5 @@
+pub mod Lines
+pub mod UsedLaws
+pub mod CapLaws
+pub mod MadeLaws
+pub mod Unique

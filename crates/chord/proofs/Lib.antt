@@ -1,0 +1,3 @@
+pub mod ChordLaws
+pub mod JumpLaws
+pub mod Unique

@@ -1,2 +1,0 @@
-pub mod SegmentLaws
-pub mod Unique

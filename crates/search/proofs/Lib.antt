@@ -1,0 +1,3 @@
+pub mod SearchLaws
+pub mod StartLaws
+pub mod Unique

@@ -1,0 +1,5 @@
+pub mod WorkLaws
+pub mod ShareLaws
+pub mod RowLaws
+pub mod EvaluateLaws
+pub mod Unique

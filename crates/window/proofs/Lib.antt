@@ -1,0 +1,3 @@
+pub mod InverseLaws
+pub mod WindowLaws
+pub mod Unique
