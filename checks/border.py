@@ -16,7 +16,7 @@ import sys
 ROOT = pathlib.Path(__file__).resolve().parent.parent
 SOURCE = ROOT / "crates" / "eskihrum" / "src"
 TOLD = ROOT / "crates" / "told" / "specs" / "Told.antt"
-JOBS = ROOT / "crates" / "eskihrum" / "specs" / "Jobs.antt"
+ABI = ROOT / "crates" / "eskihrum" / "specs" / "Abi.antt"
 HEADER = ROOT / "include" / "eskihrum.h"
 FLAT = ROOT / "rust" / "src" / "flat.rs"
 TEXTS = ROOT / "rust" / "src" / "texts.rs"
@@ -145,7 +145,7 @@ def numbers():
     ):
         if other != version:
             yield f"include/eskihrum.h: ESKIHRUM_VERSION is {version}, and {where} has {other}"
-    abi = re.search(r"^abi = (\d+)$", JOBS.read_text(encoding="utf-8"), re.M).group(1)
+    abi = re.search(r"^abi = (\d+)$", ABI.read_text(encoding="utf-8"), re.M).group(1)
     for where, pattern, text in (
         ("include/eskihrum.h", r"^#define ESKIHRUM_ABI (\d+)$", header),
         ("rust/src/flat.rs", r"^pub const ABI: u32 = (\d+);$", flat),

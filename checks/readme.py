@@ -18,6 +18,11 @@ NOT_RUN = {
     ".ci/run": "the gate itself, of which this is a part",
     "cd bench && cargo run --offline --release": "the benchmark takes minutes, and its figures differ",
     "cd bench && cargo run --offline --release -- all": "the same with the slowest plan",
+    "cd bench && cargo run --offline --release -- some edge_fp": "a part of it",
+    "cd bench && cargo run --offline --release -- compare 3000": "a part of it, without figures",
+    "cd bench && cargo run --offline --release -- hunt 300": "takes minutes, and what it finds differs",
+    "cd bench && cargo run --offline --release -- growth ../docs/growth.svg": "writes a paper's picture",
+    "cd bench && cargo run --offline --release -- make": "writes plans anew",
     "tools/build.sh archive": "the archive has a check of its own",
 }
 COMMAND = re.compile(r"(?:\$ |    )(?:\./plan|plan|make|rt|cargo|cd|tools/|checks/|\.ci/|sha256sum)\b")

@@ -1,133 +1,67 @@
-//! The compiled planner against the textbook iteration of Theorem 1 in plain Rust: the same plans, the same
-//! machine, one run. Both read each plan text and force it; their answers are compared before anything is
-//! timed.
-//!
-//!     cargo run --offline --release             all but the slowest plan
-//!     cargo run --offline --release -- all      that one too: some 20 seconds of the textbook iteration
-//!
-//! A workload is run in turns, planner and textbook one after the other, and the quickest turn of each
-//! counts.
+//! The compiled planner beside the best form known and the textbook iteration, both in plain Rust: the same
+//! plans, the same machine, one run. Answers are compared before anything is timed.
 
-use std::path::{Path, PathBuf};
-use std::time::{Duration, Instant};
+mod best;
+mod clock;
+mod growth;
+mod hunt;
+mod make;
+mod mutate;
+mod plans;
+mod report;
+mod sides;
+mod steps;
+mod svg;
+mod trial;
 
-/// Bytes of a head line and of a task line, each with its 0A.
-const HEAD: usize = 11;
-const TASK: usize = 31;
+use std::io;
+use std::path::Path;
+use std::process::ExitCode;
 
-/// The plan on which the textbook iteration takes 200 million evaluations.
-const SLOWEST: &str = "adv_textbook_fp_m16";
+const USAGE: &str = "usage: bench [COMMAND]
+                       every workload, the textbook iteration only where it is quick
+  all                  the textbook iteration everywhere: some minutes
+  some PART            the workloads whose name holds PART
+  compare COUNT [SEED] compares the three sides on random tables and damaged texts
+  hunt SECONDS [SEED [FILE]]
+                       looks for slow plans, and writes the worst into FILE
+  growth FILE          evaluations a search against n, D and the ratio of periods; the picture into FILE
+  make                 writes full_, unbroken_, adv_full_ and adv_ramp_edf_m11 again
+";
 
-fn main() {
-    let all = std::env::args().nth(1).as_deref() == Some("all");
-    let here = PathBuf::from(env!("CARGO_MANIFEST_DIR"));
-    println!(
-        "| workload | plans | planner, µs a plan | textbook, µs a plan | textbook / planner |"
-    );
-    println!("|---|---|---|---|---|");
-    for path in workloads(&here.join("plans")) {
-        let name = path
-            .file_stem()
-            .expect("a workload has a name")
-            .to_string_lossy()
-            .into_owned();
-        if name != SLOWEST || all {
-            row(
-                &name,
-                &split(&std::fs::read(&path).expect("a workload can be read")),
-            );
+fn main() -> ExitCode {
+    let words: Vec<String> = std::env::args().skip(1).collect();
+    let words: Vec<&str> = words.iter().map(|word| word.as_str()).collect();
+    match run(&words) {
+        Some(Ok(())) => ExitCode::SUCCESS,
+        Some(Err(error)) => {
+            eprintln!("{error}");
+            ExitCode::FAILURE
+        }
+        None => {
+            eprint!("{USAGE}");
+            ExitCode::from(2)
         }
     }
 }
 
-fn workloads(folder: &Path) -> Vec<PathBuf> {
-    let entries = std::fs::read_dir(folder).expect("the workloads are beside the program");
-    let mut paths: Vec<PathBuf> = entries
-        .map(|entry| entry.expect("an entry can be read").path())
-        .collect();
-    paths.sort();
-    paths
-}
-
-/// Plans that are joined with nothing between: the head says how many task lines follow.
-fn split(joined: &[u8]) -> Vec<Vec<u8>> {
-    let mut plans = Vec::new();
-    let mut left = joined;
-    while !left.is_empty() {
-        let digits = std::str::from_utf8(&left[6..8]).expect("a head is text");
-        let n = usize::from_str_radix(digits, 16).expect("a head has its count in hexadecimal");
-        let (plan, rest) = left.split_at(HEAD + n * TASK);
-        plans.push(plan.to_vec());
-        left = rest;
-    }
-    plans
-}
-
-/// The planner's coded answer, with the records that it wrote.
-fn planner(text: &[u8], records: &mut [u32]) -> u64 {
-    eskihrum::flat::plan(1, text, records)
-}
-
-/// The same by the second program, over the textbook iteration.
-fn textbook(text: &[u8]) -> Result<second::forcing::Forced, second::plan::Refusal> {
-    let table = second::plan::read(text)?;
-    second::forcing::force(&table, second::textbook::bound_of)
-}
-
-/// Both agree on a plan: the coded answer, and every record.
-fn agree(text: &[u8]) {
-    let mut records = [0; 96];
-    let code = planner(text, &mut records);
-    match textbook(text) {
-        Err(refusal) => {
-            let wanted = u64::from(refusal.number + 256 * refusal.place + (refusal.passes << 24));
-            assert_eq!(code, wanted, "{}", String::from_utf8_lossy(text));
+/// None for words that are no command.
+fn run(words: &[&str]) -> Option<io::Result<()>> {
+    match words {
+        [] => report::run("", false),
+        ["all"] => report::run("", true),
+        ["some", part] => report::run(part, false),
+        ["hunt", seconds, rest @ ..] if rest.len() <= 2 => {
+            let seed = rest.first().map_or(Some(1), |seed| seed.parse().ok())?;
+            return Some(hunt::run(seconds.parse().ok()?, seed, rest.get(1).map(Path::new)));
         }
-        Ok(forced) => {
-            assert_eq!(
-                code,
-                (1 << 32) + u64::from((forced.passes << 24) + (forced.forced << 16))
-            );
-            for (k, record) in forced.records.iter().enumerate() {
-                assert_eq!(
-                    records[3 * k..3 * k + 3],
-                    [record.flag, record.forced, record.bound]
-                );
-            }
+        ["growth", file] => return Some(growth::run(Path::new(file))),
+        ["compare", count, rest @ ..] if rest.len() <= 1 => {
+            let seed = rest.first().map_or(Some(1), |seed| seed.parse().ok())?;
+            trial::run(count.parse().ok()?, seed)
         }
+        ["make"] => return Some(make::run()),
+        _ => return None,
     }
-}
-
-/// The time of one run over all plans.
-fn timed(plans: &[Vec<u8>], mut run: impl FnMut(&[u8])) -> Duration {
-    let start = Instant::now();
-    for plan in plans {
-        run(plan);
-    }
-    start.elapsed()
-}
-
-fn row(name: &str, plans: &[Vec<u8>]) {
-    let quick = !name.starts_with("adv");
-    if quick {
-        plans.iter().for_each(|plan| agree(plan));
-    }
-    let (mut ours, mut theirs) = (Duration::MAX, Duration::MAX);
-    let mut records = [0; 96];
-    for _ in 0..if quick { 15 } else { 1 } {
-        ours = ours.min(timed(plans, |plan| {
-            std::hint::black_box(planner(std::hint::black_box(plan), &mut records));
-        }));
-        theirs = theirs.min(timed(plans, |plan| {
-            let _ = std::hint::black_box(textbook(std::hint::black_box(plan)));
-        }));
-    }
-    let each = |time: Duration| time.as_secs_f64() * 1e6 / plans.len() as f64;
-    println!(
-        "| {name} | {} | {:.1} | {:.1} | {:.2} |",
-        plans.len(),
-        each(ours),
-        each(theirs),
-        theirs.as_secs_f64() / ours.as_secs_f64()
-    );
+    Some(Ok(()))
 }

@@ -83,7 +83,7 @@ fn write_forced(t: Table, out: &mut [u8], at: usize) -> Changed
 pub fn write_changed(text: &[u8], out: &mut [u8], at: usize) -> Changed
     ensures { λ r. ⌜ ChangedAs (now (text .entry)) (now (out .entry)) at r (now (out .exit)) ⌝ }
 {
-    let reading = lines::read_plan(text);
+    let reading = reader::read_plan(text);
     let found = reading.answer;
     let t = reading.table;
     match found {

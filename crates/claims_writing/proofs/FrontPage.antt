@@ -29,8 +29,9 @@ use Rattle.changer.specs.declared.Changed.{Changed}
 use Rattle.changer.specs.declared.Changed.the-variants.{End as Ends, Refused as Stops}
 use Rattle.changer.specs.Changed.{withFlags, changedTable, ChangedAs, sentTable, forced, flagsIn, boundsIn}
 use Rattle.changer.proofs.Theorems as changer
-use Rattle.wrote.specs.Wrote.{writtenTold, changedTold}
-use Rattle.wrote.proofs.WroteLaws as told
+use Rattle.told_plans.specs.PlanNumbers.{writtenTold, changedTold}
+use Rattle.told_plans.proofs.EndLaws as told
+use Rattle.wrote.proofs.WroteLaws as wrote
 
 -- WISH 1. Refusals: 5 to 11 as for a list, then 16; otherwise the answer is the end place. Each exactly when.
 pub answer-exactly : (t : Table) (old : List ℕ) (start : ℕ) (r : Written) (new : List ℕ)
@@ -41,7 +42,7 @@ answer-exactly t old start r new w = writer.way-exact t (length old) start r .0 
 -- start lies past its end.
 pub sixteen-exactly : (t : Table) (old : List ℕ) (start : ℕ) (r : Written) (new : List ℕ)
     → WroteAs t old start r new → (r ≡ full) ↔ (LegalTable t × TooFull (planText t) (length old) start)
-sixteen-exactly = told.sixteen-exactly
+sixteen-exactly = wrote.sixteen-exactly
 
 -- Nothing is written then, nor under any other refusal.
 pub refusal-keeps : (t : Table) (old : List ℕ) (start : ℕ) (why : Refusal) (new : List ℕ)

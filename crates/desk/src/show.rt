@@ -32,7 +32,7 @@ fn put_table(t: Table) {
 }
 
 pub fn show(text: &[u8]) {
-    let reading = lines::read_plan(text);
+    let reading = reader::read_plan(text);
     let found = reading.answer;
     let t = reading.table;
     match found {

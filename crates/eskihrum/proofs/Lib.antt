@@ -1,4 +1,2 @@
-pub mod CodedLaws
 pub mod ToldUnique
 pub mod Unique
-pub mod CodeLaws

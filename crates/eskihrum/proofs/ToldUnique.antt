@@ -1,36 +1,28 @@
--- Two results which a promise of `jobs` or `writing` allows are equal: the yes, and both of the caller's
+-- Two results which a promise of `asking` or `writing` allows are equal: the yes, and both of the caller's
 -- lists afterwards.
 -- The statements are over the promises as a caller reads them. Assumes nothing.
-use Prim.Native.Nat.{ℕ}
 use mathlib.Core.Path.{_≡_}
-use mathlib.Core.List.{List}
 use borrow.Fn.Kinds.{Dens, resT, endedOf}
 use contract.Lifetimes.{Lfts}
 use denote.Ref.{now}
 use denote.Triple.Clauses.{AtExit}
 use Rattle.base.proofs.Unique.{Only, only}
-use Rattle.planner.specs.declared.Done.{Done}
 use Rattle.wrote.proofs.Unique.{wrote-only}
-use Rattle.eskihrum.specs.Jobs.{Told}
-use Rattle.eskihrum.proofs.jobs.eskihrum_abi.Kinds as abi
-use Rattle.eskihrum.proofs.jobs.eskihrum_abi.Reads as abi-reads
-use Rattle.eskihrum.proofs.jobs.eskihrum_flat_test_plan.Kinds as test-plan
-use Rattle.eskihrum.proofs.jobs.eskihrum_flat_test_plan.Reads as test-plan-reads
-use Rattle.eskihrum.proofs.jobs.eskihrum_flat_force_plan.Kinds as force-plan
-use Rattle.eskihrum.proofs.jobs.eskihrum_flat_force_plan.Reads as force-plan-reads
-use Rattle.eskihrum.proofs.jobs.eskihrum_flat_test_tasks.Kinds as test-tasks
-use Rattle.eskihrum.proofs.jobs.eskihrum_flat_test_tasks.Reads as test-tasks-reads
-use Rattle.eskihrum.proofs.jobs.eskihrum_flat_force_tasks.Kinds as force-tasks
-use Rattle.eskihrum.proofs.jobs.eskihrum_flat_force_tasks.Reads as force-tasks-reads
+use Rattle.jobs.proofs.Unique.{told-only}
+use Rattle.eskihrum.proofs.asking.eskihrum_abi.Kinds as abi
+use Rattle.eskihrum.proofs.asking.eskihrum_abi.Reads as abi-reads
+use Rattle.eskihrum.proofs.asking.eskihrum_flat_test_plan.Kinds as test-plan
+use Rattle.eskihrum.proofs.asking.eskihrum_flat_test_plan.Reads as test-plan-reads
+use Rattle.eskihrum.proofs.asking.eskihrum_flat_force_plan.Kinds as force-plan
+use Rattle.eskihrum.proofs.asking.eskihrum_flat_force_plan.Reads as force-plan-reads
+use Rattle.eskihrum.proofs.asking.eskihrum_flat_test_tasks.Kinds as test-tasks
+use Rattle.eskihrum.proofs.asking.eskihrum_flat_test_tasks.Reads as test-tasks-reads
+use Rattle.eskihrum.proofs.asking.eskihrum_flat_force_tasks.Kinds as force-tasks
+use Rattle.eskihrum.proofs.asking.eskihrum_flat_force_tasks.Reads as force-tasks-reads
 use Rattle.eskihrum.proofs.writing.eskihrum_flat_write_tasks.Kinds as write-tasks
 use Rattle.eskihrum.proofs.writing.eskihrum_flat_write_tasks.Reads as write-tasks-reads
 use Rattle.eskihrum.proofs.writing.eskihrum_flat_write_changed.Kinds as write-changed
 use Rattle.eskihrum.proofs.writing.eskihrum_flat_write_changed.Reads as write-changed-reads
-
-told-only : (d : Done) (old ans : List ℕ) {r r′ : ℕ} {new new′ ans₁ ans₂ : List ℕ} → Told d old ans r new ans₁
-    → Told d old ans r′ new′ ans₂ → (r ≡ r′) × (new ≡ new′) × (ans₁ ≡ ans₂)
-told-only d old ans a b =
-    (only (a .yes) (b .yes), only (a .records) (b .records), only (a .answer) (b .answer))
 
 pub eskihrum-abi-only : Only 0 abi.ps abi.r abi-reads.Post
 eskihrum-abi-only κs a x y s s′ p q = only p q

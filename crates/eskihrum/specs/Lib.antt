@@ -1,3 +1,1 @@
-pub mod Coded
-pub mod Jobs
-pub mod Back
+pub mod Abi

@@ -1,2 +1,3 @@
 pub mod FlagLaws
+pub mod LastLaws
 pub mod Unique

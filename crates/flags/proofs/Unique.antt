@@ -9,8 +9,8 @@ use Rattle.flags.proofs.failing_of.Kinds as failing-of
 use Rattle.flags.proofs.failing_of.Reads as failing-of-reads
 use Rattle.flags.proofs.with_failing.Kinds as with-failing
 use Rattle.flags.proofs.with_failing.Reads as with-failing-reads
-use Rattle.flags.proofs.count_lacking.Kinds as count-lacking
-use Rattle.flags.proofs.count_lacking.Reads as count-lacking-reads
+use Rattle.flags.proofs.last_lacking.Kinds as last-lacking
+use Rattle.flags.proofs.last_lacking.Reads as last-lacking-reads
 use Rattle.flags.proofs.count_changed.Kinds as count-changed
 use Rattle.flags.proofs.count_changed.Reads as count-changed-reads
 use Rattle.flags.proofs.lowest_failing.Kinds as lowest-failing
@@ -27,14 +27,14 @@ flag-at-only κs a x y s s′ p q = only p q
 pub flags-of-only : Only 0 flags-of.ps flags-of.r flags-of-reads.Post
 flags-of-only κs a x y s s′ p q = only p q
 
-pub failing-of-only : Only 0 failing-of.ps failing-of.r failing-of-reads.Post
+pub failing-of-only : Only 1 failing-of.ps failing-of.r failing-of-reads.Post
 failing-of-only κs a x y s s′ p q = only p q
 
 pub with-failing-only : Only 0 with-failing.ps with-failing.r with-failing-reads.Post
 with-failing-only κs a x y s s′ p q = only p q
 
-pub count-lacking-only : Only 0 count-lacking.ps count-lacking.r count-lacking-reads.Post
-count-lacking-only κs a x y s s′ p q = only p q
+pub last-lacking-only : Only 0 last-lacking.ps last-lacking.r last-lacking-reads.Post
+last-lacking-only κs a x y s s′ p q = only p q
 
 pub count-changed-only : Only 0 count-changed.ps count-changed.r count-changed-reads.Post
 count-changed-only κs a x y s s′ p q = only p q

@@ -5,6 +5,7 @@
 --   a task without a bound                          flagIn f i is 0, where f holds the failing tasks
 --   n flags, or n bounds, held by place             held f n: 0 where f is 0, else 1, and 1 past the n-th
 --   a changed flag                                  changed given flag is 1
+--   the last of n tasks with f not 0, from 1        lastTo f n, 0 for none
 --
 -- Assumes nothing.
 use Prim.Native.Nat.{ℕ, zero, suc}
@@ -27,3 +28,7 @@ held f n = record { row = row 1 (λ i. asFlag (f i)) n }
 -- 1 where the flag is not the given one
 unfoldable pub changed : ℕ → ℕ → ℕ
 changed given flag = pick (eqb given flag) 0 1
+
+unfoldable pub lastTo : (ℕ → ℕ) → ℕ → ℕ
+lastTo f zero = 0
+lastTo f (suc n) = pick (eqb (f n) 0) (lastTo f n) (suc n)

@@ -8,7 +8,7 @@ ghost use Rattle.base.specs.Least.{firstOf};
 ghost use Rattle.base.specs.Rows.{at};
 ghost use Rattle.model.specs.Forcing.{lacks};
 ghost use Rattle.table.specs.Table.{flagsOf, LegalTable};
-ghost use Rattle.flags.specs.Flags.{asFlag, flagIn, held, changed};
+ghost use Rattle.flags.specs.Flags.{asFlag, flagIn, held, changed, lastTo};
 use table::Table;
 
 pub struct Flags {
@@ -46,9 +46,9 @@ pub fn flags_of(t: Table) -> Flags
 }
 
 // The tasks without a bound, among the first n.
-pub fn failing_of(n: usize, bounds: [u32; 32]) -> Flags
+pub fn failing_of(n: usize, bounds: &[u32; 32]) -> Flags
     requires { ⌜ n ≤ 32 ⌝ }
-    ensures { λ r. ⌜ r ≡ held (at bounds) n ⌝ }
+    ensures { λ r. ⌜ r ≡ held (at (now (bounds .entry))) n ⌝ }
 {
     let mut places = [1u32; 32];
     let mut i: usize = 0;
@@ -83,17 +83,19 @@ pub fn with_failing(flags: Flags, failing: Flags) -> Flags
     Flags { row: places }
 }
 
-// How many preemptive tasks fail.
-pub fn count_lacking(flags: Flags, failing: Flags) -> u32
-    ensures { λ r. ⌜ r ≡ sumTo (λ i. lacks (flagIn flags i) (flagIn failing i)) 32 ⌝ }
+// The number of the last preemptive task that fails, and 0 for none.
+pub fn last_lacking(flags: Flags, failing: Flags) -> usize
+    ensures { λ r. ⌜ r ≡ lastTo (λ i. lacks (flagIn flags i) (flagIn failing i)) 32 ⌝ }
 {
-    let mut sum: u32 = 0;
+    let mut last: usize = 0;
     let mut i: usize = 0;
     while i < 32 {
-        sum += lacks(flag_at(flags, i), flag_at(failing, i));
+        if lacks(flag_at(flags, i), flag_at(failing, i)) != 0 {
+            last = i + 1;
+        }
         i += 1;
     }
-    sum
+    last
 }
 
 // 1 where a flag was changed, 0 where it was not.

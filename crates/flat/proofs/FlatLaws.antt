@@ -14,7 +14,7 @@ use Rattle.planner.specs.declared.Record.{Record}
 use Rattle.planner.specs.declared.Done.{Done}
 use Rattle.planner.specs.Answers.{noRecord, recordAt}
 use Rattle.planner.proofs.CountLaws.{Small}
-use Rattle.flat.specs.Flat.{countIn, recordNumbers, numbersOf, flatAfter}
+use Rattle.flat.specs.Flat.{countIn, recordNumbers, numbersOf, flatAfter, Fits}
 
 pub count-whole : (x : ℕ) → x % 4 ≡ 0 → x / 4 ≡ countIn x
 count-whole x e = rw (eq-eqb (x % 4) 0 e)
@@ -89,6 +89,5 @@ module _ (d : Done) (old : List ℕ) where
             ∙ ap (λ n. numbersOf (take n (d .recs)) ++ drop (3 * n) old) e
 
 -- an answer's records are there, and the caller's numbers have room for them
-pub flat-fits : (len : ℕ) (d x : Done) → d ≡ x → Small (len / 3) x
-    → (3 * d .count ≤ len) × (d .count ≤ 32) × (length (d .recs) ≡ 32)
+pub flat-fits : (len : ℕ) (d x : Done) → d ≡ x → Small (len / 3) x → Fits d len
 flat-fits len d x e small = rw e (omega (arith, small .fits), small .few, small .long)

@@ -3,11 +3,13 @@
 --   a record: flag, forced, bound       recordNumbers
 --   a task: flag, T, C, D               taskIn xs i; what is missing at the end counts as 0
 --   the caller's numbers afterwards     flatAfter
+--   there is room for the records       Fits
 --
 -- Assumes nothing.
-use Prim.Native.Nat.{ℕ, _+_, _*_, _/_, _%_}
+use Prim.Native.Nat.{ℕ, _+_, _*_, _/_, _%_, _≤_}
+use mathlib.Core.Path.{_≡_}
 use mathlib.Core.List.{List, [], _∷_, _++_}
-use lib.ListN.{take, drop}
+use lib.ListN.{length, take, drop}
 use lib.Dec.{eqb}
 use Rattle.base.specs.Choice.{pick}
 use Rattle.base.specs.Rows.{at, row}
@@ -26,6 +28,10 @@ numbersOf (r ∷ rs) = recordNumbers r ++ numbersOf rs
 -- the numbers of the records that are written, and the caller's own from there on
 unfoldable pub flatAfter : Done → List ℕ → List ℕ
 flatAfter d old = numbersOf (take (d .count) (d .recs)) ++ drop (3 * d .count) old
+
+-- the records of an answer are there, and so many numbers have room for them
+abbrev pub Fits : Done → ℕ → Type 0
+Fits d len = (3 * d .count ≤ len) × (d .count ≤ 32) × (length (d .recs) ≡ 32)
 
 -- the number of tasks in so many numbers
 abbrev pub countIn : ℕ → ℕ

@@ -4,7 +4,7 @@ ghost use Prim.Native.Nat.{_+_, _*_, _≤_, _<_};
 ghost use lib.ListN.{length};
 ghost use Rattle.base.specs.Rows.{at};
 ghost use Rattle.buffer.specs.Put.{Put};
-ghost use Rattle.flat.specs.Flat.{countIn, taskIn, tasksIn, recordNumbers, flatAfter};
+ghost use Rattle.flat.specs.Flat.{countIn, taskIn, tasksIn, recordNumbers, flatAfter, Fits};
 use planner::Done;
 use planner::Record;
 use table::NO_TASK;
@@ -66,7 +66,7 @@ fn put_record(out: &mut [u32], i: usize, r: Record)
 
 // The records of an answer go to the front of the caller's numbers, and the rest of them stays.
 pub fn put_records(out: &mut [u32], d: Done)
-    requires { ⌜ (3 * d .count ≤ length (now out)) × (d .count ≤ 32) × (length (d .recs) ≡ 32) ⌝ }
+    requires { ⌜ Fits d (length (now out)) ⌝ }
     ensures { λ _. ⌜ now (out .exit) ≡ flatAfter d (now (out .entry)) ⌝ }
 {
     let n = d.count;

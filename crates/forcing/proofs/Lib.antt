@@ -1,3 +1,4 @@
-pub mod RowTests
+pub mod StartLaws
 pub mod PassingLaws
+pub mod TableLaws
 pub mod Unique

@@ -1,153 +1,227 @@
 -- The loop of passes, over the flags as they are held: what it knows is what the model's passes know of the
--- list that is held, so that it ends where forcing does.
+-- list that is held, so that it ends where forcing does. Of each preemptive task it knows a q below which
+-- none is enough; under FP, of those that see no change, the bound itself.
 -- Assumes nothing.
-use Prim.Native.Nat.{ℕ, _+_, _-_, _≤_, _<_}
+use Prim.Native.Nat.{ℕ, zero, suc, _+_, _-_, _≤_, _<_}
 use native.Mathlib.Omega.{arith}
-use mathlib.Core.Path.{_≡_, sym, ap, ap₂, _∙_}
+use native.Mathlib.Nat.{le-refl}
+use mathlib.Core.Path.{_≡_, refl, sym, ap, ap₂, _∙_}
+use mathlib.Core.Bool.{true}
 use mathlib.Core.List.{List}
+use mathlib.Core.Logic.{_⊎_, inl, inr, ⊎-elim}
+use lib.Dec.{eqb}
 use Rattle.base.specs.Sums.{sumTo}
-use Rattle.base.specs.Rows.{at, row}
+use Rattle.base.specs.Rows.{at}
+use Rattle.base.proofs.OrderLaws.{le-or-lt}
 use Rattle.base.proofs.SumLaws.{sum-same}
-use Rattle.base.proofs.RowLaws.{row-at, row-same}
-use Rattle.model.specs.Bound.{bound}
-use Rattle.model.specs.Forcing.{lacks, lacking, made, force}
-use Rattle.model.specs.Demands.{Timed, Alike}
-use Rattle.model.specs.Demands.{Flags as FlagsOf}
-use Rattle.model.proofs.BoundLaws.{bound-same}
-use Rattle.model.proofs.ForcingLaws.{made-at}
-use Rattle.model.proofs.PassLaws.{Forcing, forcing-start, forcing-done, forcing-more, forcing-falls}
-use Rattle.table.specs.declared.Table.{Table}
-use Rattle.table.specs.Table.{systemOf, flagsOf, LegalTable}
-use Rattle.table.proofs.TableLaws.{flags-at}
+use Rattle.base.proofs.FirstLaws.{first-same}
+use Rattle.model.specs.Bound.{FP, System, bound}
+use Rattle.model.specs.Forcing.{test, lacks, lacking, made, lowest}
+use Rattle.model.specs.Demands.{Alike}
+use Rattle.model.proofs.SeenLaws.{fp-above}
+use Rattle.model.proofs.ForcingLaws.{test-at, made-at}
+use Rattle.model.proofs.PassLaws.{Forcing, forcing-done, forcing-more, forcing-falls}
+use Rattle.table.specs.Table.{policyOf}
 use Rattle.flags.specs.declared.Flags.{Flags}
-use Rattle.flags.specs.Flags.{flagIn, held}
-use Rattle.flags.proofs.FlagLaws.{held-flag, held-same, lacking-held, made-held}
-use Rattle.forcing.specs.declared.Forced.{Forced}
-use Rattle.forcing.specs.Answers.{testOf, forcedOf}
+use Rattle.flags.specs.Flags.{flagIn, held, lastTo}
+use Rattle.flags.proofs.FlagLaws.{flag-small, zero-flag, held-flag, held-at, held-same}
+use Rattle.flags.proofs.FlagLaws.{none-lacks, lacking-held, held-past, made-held}
+use Rattle.flags.proofs.LastLaws.{last-past, last-within, last-none, last-some}
+use Rattle.passes.specs.Passes.{Onward, Preempted, Last}
+use Rattle.passes.proofs.OnwardLaws.{q-sooner, sooner-kept}
+use Rattle.forcing.specs.Forced.{endOf, givenList, finalOf, Ended}
+use Rattle.forcing.proofs.StartLaws.{Sized, flags-read, bound-read, Passing}
 
-module _ {t : Table} (legal : LegalTable t) where
-  table-timed : Timed (systemOf t)
-  table-timed k lt = legal .each k lt .some
+lacks-same : (x b b′ : ℕ) → (0 < x → b ≡ b′) → lacks x b ≡ lacks x b′
+lacks-same zero b b′ e = unfold lacks in refl
+lacks-same (suc x) b b′ e = ap (lacks (suc x)) (e (omega arith))
 
-  table-flags : FlagsOf (systemOf t) (at (flagsOf t))
-  table-flags i lt = omega (arith, flags-at t i lt, legal .each i lt .flag)
+lacks-one : (x : ℕ) → lacks x 1 ≡ 0
+unfolding lacks
+lacks-one zero = refl
+lacks-one (suc x) = refl
 
-  -- under the flags that are held, a task has the bound that it has under the list
-  module _ {flags : Flags} (fs : List ℕ) (is : flags ≡ held (at fs) (t .n))
-      (one : FlagsOf (systemOf t) (at fs))
-    where
-      flags-read : (i : ℕ) → i < t .n → flagIn flags i ≡ at fs i
-      flags-read i lt =
-          ap (λ f. flagIn f i) is ∙ held-flag (at fs) (t .n) (legal .count) i lt (one i lt)
-
-      bound-read : (k : ℕ) → k < t .n → bound (systemOf t) (flagIn flags) k ≡ bound (systemOf t) (at fs) k
-      bound-read k lt =
-          sym (bound-same (systemOf t) (at fs) (flagIn flags) k (table-timed k lt) lt flags-read)
-
-  -- the test of the table as given
-  pub test-held : {flags : Flags} {r : List ℕ} → flags ≡ held (at (flagsOf t)) (t .n)
-      → r ≡ row 0 (bound (systemOf t) (flagIn flags)) (t .n) → r ≡ testOf t
-  unfolding testOf
-  test-held is tested =
-      tested ∙ row-same 0 _ _ (t .n) (legal .count) (bound-read (flagsOf t) is table-flags)
-
--- What the loop knows: the list that its flags hold is on the way from the table's flags, and its bounds
--- are those of a test under its flags.
-pub record Passing (t : Table) (flags : Flags) (bounds : List ℕ) (passes : ℕ) : Type 0 where
-  pub list : List ℕ
-  pub way : Forcing (systemOf t) (flagsOf t) list passes
-  pub holds : flags ≡ held (at list) (t .n)
-  pub tested : bounds ≡ row 0 (bound (systemOf t) (flagIn flags)) (t .n)
-
-pub passing-start : {t : Table} → LegalTable t → {flags : Flags} {bounds : List ℕ}
-    → flags ≡ held (at (flagsOf t)) (t .n) → bounds ≡ row 0 (bound (systemOf t) (flagIn flags)) (t .n)
-    → Passing t flags bounds 1
-passing-start {t} legal is tested = record {
-  list = flagsOf t;
-  way = forcing-start (systemOf t) (table-timed legal) (flagsOf t) (table-flags legal);
-  holds = is;
-  tested = tested;
-}
-
-pub passing-small : {t : Table} → LegalTable t → {flags : Flags} {bounds : List ℕ} {passes : ℕ}
-    → Passing t flags bounds passes → passes ≤ 33
-passing-small legal a = omega (arith, a .way .small, legal .count)
-
--- one turn of the loop: the failing tasks, and how many of them are preemptive
-module _ {t : Table} (legal : LegalTable t) {flags failing : Flags} {bounds : List ℕ} {passes count : ℕ}
-    (a : Passing t flags bounds passes) (fails : failing ≡ held (at bounds) (t .n))
-    (counted : count ≡ sumTo (λ i. lacks (flagIn flags i) (flagIn failing i)) 32)
+-- one turn of the loop: the pass, and the last task that lacks a bound
+module _ {s : System} (sized : Sized s) {given flags failing : Flags} {end passes last : ℕ}
+    {old bounds : List ℕ}
+    (a : Passing s given flags end old passes) (pass : Onward s (flagIn flags) end old bounds)
+    (fails : failing ≡ held (at bounds) (s .count))
+    (counted : last ≡ lastTo (λ i. lacks (flagIn flags i) (flagIn failing i)) 32)
   where
-    bound-at : (k : ℕ) → k < t .n → at bounds k ≡ bound (systemOf t) (at (a .list)) k
-    bound-at k lt =
-        ap (λ x. at x k) (a .tested)
-        ∙ row-at 0 (bound (systemOf t) (flagIn flags)) (t .n) k lt (legal .count)
-        ∙ bound-read legal (a .list) (a .holds) (a .way .flags) k lt
+    -- each preemptive task has its bound in the row, or has none
+    searched : (k : ℕ) → k < s .count → 0 < flagIn flags k → at bounds k ≡ bound s (flagIn flags) k
+    searched k lt pre =
+        ⊎-elim (λ le. pass .kept k le ∙ a .known k le lt pre) (λ less. pass .found k less pre)
+        (le-or-lt end k)
 
-    count-is : count ≡ lacking (systemOf t) (a .list) bounds
+    abbrev tested : List ℕ
+    tested = test s (a .list)
+
+    lack-is : (k : ℕ) → k < s .count
+        → lacks (at (a .list) k) (at bounds k) ≡ lacks (at (a .list) k) (at tested k)
+    lack-is k lt =
+        lacks-same _ _ _
+        (λ pre.
+        searched k lt (omega (arith, flags-read sized (a .list) (a .holds) (a .way .flags) k lt))
+        ∙ bound-read sized (a .list) (a .holds) (a .way .flags) k lt
+        ∙ sym (test-at s (a .list) k lt))
+
+    sum-is : sumTo (λ i. lacks (flagIn flags i) (flagIn failing i)) 32 ≡ lacking s (a .list) tested
     unfolding lacking
-    count-is =
-        counted
-        ∙ ap₂ (λ x y. sumTo (λ i. lacks (flagIn x i) (flagIn y i)) 32) (a .holds) fails
-        ∙ lacking-held (at (a .list)) (at bounds) (t .n) (legal .count)
+    sum-is =
+        ap₂ (λ x y. sumTo (λ i. lacks (flagIn x i) (flagIn y i)) 32) (a .holds) fails
+        ∙ lacking-held (at (a .list)) (at bounds) (s .count) (sized .few)
+        ∙ sum-same _ _ (s .count) lack-is
 
-    -- none is
-    pub passing-done : count ≡ 0
-        → _≡_ {A = Forced} (record { flags = flags; bounds = bounds; passes = passes }) (forcedOf t)
-    unfolding forcedOf
-    passing-done none = cc (same-flags, same-bounds, same .passes)
-      where
-        same : Alike (t .n) (force (systemOf t) (flagsOf t))
-            (record { flags = a .list; bounds = bounds; passes = passes })
-        same =
-            forcing-done (systemOf t) (table-timed legal) (flagsOf t) (a .list) bounds passes (a .way)
-            bound-at (sym count-is ∙ none)
+    none-past : (i : ℕ) → last ≤ i → i < 32 → lacks (flagIn flags i) (flagIn failing i) ≡ 0
+    none-past i le lt =
+        last-past (λ j. lacks (flagIn flags j) (flagIn failing j)) 32 i (omega (arith, counted)) lt
 
-        same-flags : flags ≡ held (at (force (systemOf t) (flagsOf t) .flags)) (t .n)
-        same-flags = a .holds ∙ held-same _ _ (t .n) (legal .count) (same .flags)
+    -- no task does: each preemptive one has a bound
+    module _ (none : last ≡ 0) where
+      nothing : lacking s (a .list) tested ≡ 0
+      nothing = sym sum-is ∙ last-none _ 32 (sym counted ∙ none)
 
-        same-bounds : bounds ≡ row 0 (at (force (systemOf t) (flagsOf t) .bounds)) (t .n)
-        same-bounds =
-            a .tested
-            ∙ row-same 0 _ _ (t .n) (legal .count)
-            (λ k lt.
-            bound-read legal (a .list) (a .holds) (a .way .flags) k lt
-            ∙ sym (bound-at k lt)
-            ∙ same .bounds k lt)
+      has-bound : (k : ℕ) → k < s .count → 0 < flagIn flags k → 0 < bound s (flagIn flags) k
+      has-bound k lt pre = omega (arith, contrary)
+        where
+          contrary : bound s (flagIn flags) k ≡ 0 → ⊥
+          contrary z =
+              let zero-there : at bounds k ≡ 0 = searched k lt pre ∙ z in
+              let failed : flagIn failing k ≡ 0 =
+              ap (λ f. flagIn f k) fails
+              ∙ held-at (at bounds) (s .count) (sized .few) k lt
+              ∙ sym (zero-flag (at bounds k) zero-there) in
+              let e : ⊥ =
+              omega (
+                arith,
+                none-past k (omega arith) (omega (arith, sized .few)),
+                none-lacks (flagIn flags k) (flagIn failing k) (λ x. omega arith) failed,
+              ) in e
 
-    -- some are, and are made non-preemptive
-    module _ {next : Flags} (more : count ≡ 0 → ⊥)
+      pub passing-ends : Preempted s (flagIn flags) bounds
+      passing-ends = record { size = pass .size; known = searched; some = has-bound }
+
+      same : Alike (s .count) (finalOf s given) (record { flags = a .list; bounds = tested; passes = passes })
+      same =
+          forcing-done s (sized .timed) (givenList s given) (a .list) tested passes (a .way)
+          (test-at s (a .list)) nothing
+
+      final-is : (k : ℕ) → k < s .count → bound s (flagIn flags) k ≡ at (finalOf s given .bounds) k
+      final-is k lt =
+          bound-read sized (a .list) (a .holds) (a .way .flags) k lt
+          ∙ sym (test-at s (a .list) k lt)
+          ∙ same .bounds k lt
+
+      pub passing-done : {all : List ℕ} {r : ℕ} → Last s (flagIn flags) all r
+          → Ended s given all (record { flags = flags; passes = passes; failing = r })
+      unfolding lowest
+      passing-done done = record {
+        flags = a .holds ∙ held-same _ _ (s .count) (sized .few) (same .flags);
+        passes = same .passes;
+        failing =
+            done .lowest ∙ first-same _ _ (s .count) (λ k lt. ap (λ x. eqb x 0) (final-is k lt));
+        each = λ z k lt. done .each z k lt ∙ final-is k lt;
+      }
+
+    -- some do, and are made non-preemptive
+    module _ {next : Flags} (more : last ≡ 0 → ⊥)
         (is : next ≡ held (λ i. flagIn flags i - lacks (flagIn flags i) (flagIn failing i)) 32)
       where
-        some-lack : 0 < lacking (systemOf t) (a .list) bounds
-        some-lack = omega (arith, count-is, more)
+        some-lack : 0 < lacking s (a .list) tested
+        some-lack = omega (arith, sum-is, last-some _ 32 (λ z. more (counted ∙ z)))
 
         abbrev nextList : List ℕ
-        nextList = made (systemOf t) (a .list) bounds
+        nextList = made s (a .list) tested
 
-        next-holds : next ≡ held (at nextList) (t .n)
+        next-holds : next ≡ held (at nextList) (s .count)
         next-holds =
             is
             ∙ ap₂ (λ x y. held (λ i. flagIn x i - lacks (flagIn x i) (flagIn y i)) 32) (a .holds) fails
-            ∙ made-held (at (a .list)) (at bounds) (t .n) (legal .count) (a .way .flags)
-            ∙ held-same _ _ (t .n) (legal .count) (λ k lt. sym (made-at (systemOf t) (a .list) bounds k lt))
+            ∙ made-held (at (a .list)) (at bounds) (s .count) (sized .few) (a .way .flags)
+            ∙ held-same _ _ (s .count) (sized .few)
+            (λ k lt.
+            ap (λ x. at (a .list) k - x) (lack-is k lt) ∙ sym (made-at s (a .list) tested k lt))
 
-        next-way : Forcing (systemOf t) (flagsOf t) nextList (passes + 1)
+        next-way : Forcing s (givenList s given) nextList (passes + 1)
         next-way =
-            forcing-more (systemOf t) (table-timed legal) (flagsOf t) (a .list) bounds passes (a .way)
-            bound-at nextList some-lack (made-at (systemOf t) (a .list) bounds)
+            forcing-more s (sized .timed) (givenList s given) (a .list) tested passes (a .way)
+            (test-at s (a .list)) nextList some-lack (made-at s (a .list) tested)
 
         -- so that fewer are left
-        pub passing-falls : sumTo (flagIn next) (t .n) < sumTo (flagIn flags) (t .n)
+        pub passing-falls : sumTo (flagIn next) (s .count) < sumTo (flagIn flags) (s .count)
         passing-falls =
             omega (
               arith,
-              sum-same _ _ (t .n) (flags-read legal (a .list) (a .holds) (a .way .flags)),
-              sum-same _ _ (t .n) (flags-read legal nextList next-holds (next-way .flags)),
-              forcing-falls (systemOf t) (table-timed legal) (flagsOf t) (a .list) bounds passes (a .way)
-                  bound-at nextList some-lack (made-at (systemOf t) (a .list) bounds),
+              sum-same _ _ (s .count) (flags-read sized (a .list) (a .holds) (a .way .flags)),
+              sum-same _ _ (s .count) (flags-read sized nextList next-holds (next-way .flags)),
+              forcing-falls s (sized .timed) (givenList s given) (a .list) tested passes (a .way)
+                  (test-at s (a .list)) nextList some-lack (made-at s (a .list) tested),
             )
 
-        pub passing-more : {again : List ℕ} → again ≡ row 0 (bound (systemOf t) (flagIn next)) (t .n)
-            → Passing t next again (passes + 1)
-        passing-more tested = record { list = nextList; way = next-way; holds = next-holds; tested = tested }
+        flag-left : (i : ℕ) → i < 32
+            → flagIn next i ≡ flagIn flags i - lacks (flagIn flags i) (flagIn failing i)
+        flag-left i lt =
+            ap (λ f. flagIn f i) is
+            ∙ held-flag _ 32 (le-refl 32) i lt (omega (arith, flag-small flags i))
+
+        fewer : (i : ℕ) → i < s .count → flagIn next i ≤ flagIn flags i
+        fewer i lt = omega (arith, flag-left i (omega (arith, sized .few)))
+
+        stays : (k : ℕ) → k < s .count → 0 < flagIn next k → flagIn next k ≡ flagIn flags k
+        stays k lt pre = omega (arith, fewer k lt, flag-small flags k)
+
+        sees-none : (k : ℕ) → last ≤ k → (i : ℕ) → i < s .count
+            → (s .higher k i ≡ true) ⊎ (flagIn next i ≡ flagIn flags i)
+        sees-none k le i lt =
+            ⊎-elim
+            (λ (low : k ≤ i). inr
+            (flag-left i (omega (arith, sized .few))
+            ∙ (let e : flagIn flags i - lacks (flagIn flags i) (flagIn failing i) ≡ flagIn flags i =
+            omega (arith, none-past i (omega arith) (omega (arith, sized .few))) in e)))
+            (λ less. inl (sized .order k i less)) (le-or-lt k i)
+
+        -- under FP a task below the last that was forced keeps its bound
+        kept-below : s .policy ≡ FP → (k : ℕ) → last ≤ k → k < s .count → 0 < flagIn next k
+            → at bounds k ≡ bound s (flagIn next) k
+        kept-below fp k le lt pre =
+            searched k lt (omega (arith, fewer k lt))
+            ∙ fp-above s (flagIn flags) (flagIn next) k (stays k lt pre) (sees-none k le) fp
+            (sized .timed k lt)
+
+        known-from : (p : ℕ) → s .policy ≡ policyOf p → (k : ℕ) → endOf p (s .count) last ≤ k → k < s .count
+            → 0 < flagIn next k → at bounds k ≡ bound s (flagIn next) k
+        unfolding endOf
+        known-from zero e k le lt pre = absurd (let z : ⊥ = omega arith in z)
+        known-from (suc p) e k le lt pre = kept-below e k le lt pre
+
+        end-within : (p : ℕ) → endOf p (s .count) last ≤ s .count
+        unfolding endOf
+        end-within zero = le-refl _
+        end-within (suc p) =
+            omega (
+              arith,
+              counted,
+              last-within (λ i. lacks (flagIn flags i) (flagIn failing i)) (s .count) 32
+                  (λ i le lt.
+                  ap (lacks (flagIn flags i))
+                  (ap (λ f. flagIn f i) fails ∙ held-past (at bounds) (s .count) i le lt)
+                  ∙ lacks-one (flagIn flags i)),
+            )
+
+        pub passing-more : {end′ : ℕ} (p : ℕ) → s .policy ≡ policyOf p → end′ ≡ endOf p (s .count) last
+            → Passing s given next end′ bounds (passes + 1)
+        passing-more p policy e = record {
+          list = nextList;
+          way = next-way;
+          holds = next-holds;
+          floors = record {
+            size = pass .size;
+            floor = λ k lt pre.
+                sooner-kept s (flagIn flags) (flagIn next) k fewer (stays k lt pre)
+                (q-sooner s (flagIn flags) k (at bounds k) (sized .timed k lt)
+                (λ z. omega (arith, fewer k lt)) (searched k lt (omega (arith, fewer k lt))));
+          };
+          within = omega (arith, e, end-within p);
+          known = λ k le. known-from p policy k (omega (arith, e));
+        }

@@ -3,8 +3,9 @@
 -- Assumes nothing.
 use Prim.Native.Nat.{ℕ, zero, suc, _+_, _*_, _-_, _≤_, _<_}
 use native.Mathlib.Omega.{arith}
-use mathlib.Core.Path.{_≡_, refl}
+use mathlib.Core.Path.{_≡_, refl, ap, _∙_}
 use mathlib.Core.Bool.{Bool, true, false}
+use mathlib.Core.Logic.{⊎-elim}
 use mathlib.Core.List.{List, [], _∷_}
 use lib.Dec.{leb, eqb}
 use lib.ListN.{length, getD, drop, length-map, List·getD-map}
@@ -12,9 +13,17 @@ use lib.Seq.{getD-drop}
 use borrow.Author.Tests.{lt-leb, leb-true, leb-false, eq-eqb, ne-eqb, eqb-true}
 use Rattle.base.specs.Choice.{pick, both}
 use Rattle.base.specs.Sums.{sumTo}
-use Rattle.base.proofs.FirstLaws.{NoneTo, first-none, none-first, find-step}
-use Rattle.frames.specs.Digits.{digitOf, raise, raised, digitAt, byteAt, Digits, noDigit, allDigits}
+use Rattle.base.proofs.OrderLaws.{le-or-lt}
+use Rattle.base.proofs.RowLaws.{list-at}
+use Rattle.base.proofs.FirstLaws.{NoneTo, first-none, none-first}
+use Rattle.frames.specs.Digits.{digitOf, digitTable, raise, raised, digitAt, byteAt, Digits, noDigit}
+use Rattle.frames.specs.Digits.{allDigits}
 use Rattle.frames.specs.Frames.{frameSum}
+
+-- the digit table has the digit value of each byte
+pub table-digit : {d : List ℕ} {b : ℕ} → d ≡ digitTable → b < 256 → getD d b 0 ≡ digitOf b
+unfolding digitTable
+table-digit {d} {b} e h = ap (λ (t : List ℕ). getD t b 0) e ∙ list-at 0 digitOf 256 b h
 
 -- a byte that is no digit has 255
 pub no-digit-none : (b : ℕ) → 16 ≤ digitOf b → digitOf b ≡ 255
@@ -34,6 +43,12 @@ no-digit-none b h = go (leb 48 b) refl (leb b 57) refl (leb 65 b) refl (leb b 70
     go false a q d true e false f h = refl
     go false a q d false e u f h = refl
 
+-- the digit value of a byte is a byte
+pub digit-most : {d : ℕ} (b : ℕ) → d ≡ digitOf b → d ≤ 255
+digit-most b e =
+    ⊎-elim (λ (h : 16 ≤ digitOf b). omega (arith, no-digit-none b h)) (λ (h : digitOf b < 16). omega arith)
+    (le-or-lt 16 (digitOf b))
+
 module _ (s : List ℕ) where
   -- the test passes exactly where all are digits
   pub digits-right : (n : ℕ) → allDigits s n ≡ true → Digits s n
@@ -43,10 +58,6 @@ module _ (s : List ℕ) where
   pub none-wrong : {n : ℕ} → NoneTo (noDigit s) n → allDigits s n ≡ true
   unfolding allDigits
   none-wrong none = eq-eqb _ 0 (first-none (noDigit s) none)
-
-  -- the loop passes one digit more
-  pub passed-digit : {i : ℕ} → NoneTo (noDigit s) i → digitAt s i < 16 → NoneTo (noDigit s) (i + 1)
-  passed-digit {i} none h = find-step (noDigit s) none (lt-leb 16 (digitAt s i) h)
 
   pub right-digits : (n : ℕ) → Digits s n → allDigits s n ≡ true
   right-digits n h = none-wrong (λ i l. lt-leb 16 (digitAt s i) (h i l))

@@ -4,4 +4,3 @@ pub mod FrameLaws
 pub mod ByteLaws
 pub mod TextLaws
 pub mod AlikeLaws
-pub mod Unique

@@ -2,7 +2,7 @@
 --
 --   document 01                                          here
 --   upper-case digits 0-9, A-F                           digitOf, and digitText the other way
---   the digit value of a byte, 255 for what is no digit  digitOf b
+--   the digit value of a byte, 255 for what is no digit  digitOf b, and digitTable: that of each byte
 --   a byte as the writer writes it                       raise b, and raised s for a text, byte by byte
 --   two digits to a byte                                 byteAt s i: byte i of the line that s starts with
 --   4 bytes, highest first                               wordAt s i
@@ -16,6 +16,7 @@ use lib.Dec.{ltb, leb, eqb}
 use lib.ListN.{getD}
 use Rattle.base.specs.Choice.{pick, both}
 use Rattle.base.specs.Least.{firstOf}
+use Rattle.base.specs.Rows.{listOf}
 
 -- b is one of lo .. hi
 abbrev pub among : ℕ → ℕ → ℕ → Bool
@@ -24,6 +25,10 @@ among lo hi b = both (leb lo b) (leb b hi)
 -- 0 to 9 are the bytes 48 to 57, A to F the bytes 65 to 70; all else has 255
 unfoldable pub digitOf : ℕ → ℕ
 digitOf b = pick (among 48 57 b) (b - 48) (pick (among 65 70 b) (b - 55) 255)
+
+-- the digit values of the 256 bytes, in order
+unfoldable pub digitTable : List ℕ
+digitTable = listOf digitOf 256
 
 -- the byte of a digit
 unfoldable pub digitText : ℕ → ℕ

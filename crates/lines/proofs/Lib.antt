@@ -7,4 +7,3 @@ pub mod SettledLaws
 pub mod ExactLaws
 pub mod Samples
 pub mod Theorems
-pub mod Unique

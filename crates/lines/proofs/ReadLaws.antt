@@ -7,9 +7,10 @@ use mathlib.Core.Path.{_≡_, refl, sym, ap, ap₂, subst, _∙_}
 use mathlib.Core.Bool.{Bool, true, false, not}
 use mathlib.Core.List.{List}
 use lib.Dec.{eqb}
-use lib.ListN.{length, drop, set, length-drop}
+use lib.ListN.{length, drop, set, replicate, length-drop}
 use borrow.Author.Tests.{lt-ltb, le-ltb, eq-eqb, ne-eqb}
 use Rattle.base.specs.Choice.{orElse}
+use Rattle.base.specs.Rows.{row}
 use Rattle.base.proofs.FirstLaws.{NoneTo, first-is, first-none, find-start, find-step}
 use Rattle.base.proofs.RowLaws.{fill-start, fill-step}
 use Rattle.table.specs.declared.Task.{Task}
@@ -18,22 +19,24 @@ use Rattle.table.specs.declared.Refusal.{Refusal}
 use Rattle.table.specs.declared.Checked.{Checked}
 use Rattle.table.specs.declared.Checked.the-variants.{Fine, Refused}
 use Rattle.table.specs.Table.{noTask}
-use Rattle.table.specs.Checks.{headFaultOf}
 use Rattle.table.specs.Faults.{LegalHead}
 use Rattle.table.proofs.RangeLaws.{head-legal}
 use Rattle.lines.specs.declared.Form.{Form}
 use Rattle.lines.specs.declared.Front.{Front}
+use Rattle.lines.specs.declared.Head.{Head}
+use Rattle.lines.specs.declared.HeadLine.{HeadLine}
+use Rattle.lines.specs.declared.HeadLine.the-variants.{Fit, Unfit}
 use Rattle.lines.specs.declared.TaskLine.{TaskLine}
 use Rattle.lines.specs.declared.TaskLine.the-variants.{Right, Wrong}
 use Rattle.lines.specs.Form.{form1, lineLength, lineStart, FormSized}
-use Rattle.lines.specs.Fields.{headOf, taskOf, fieldsPart, taskText, headFrameFault, headLineFault}
-use Rattle.lines.specs.Fields.{taskLineFault, textHead, textTask, lineFault}
-use Rattle.lines.specs.Reads.{refused, accepted, stopped, passed, taskAnswer, withTasks, wrongTask}
-use Rattle.lines.specs.Reads.{TasksDue, tasksRead, frontBy, frontOf, wholeAnswer, wholeOf, readOf}
+use Rattle.lines.specs.Fields.{headOf, numbersOf, emptyTable, taskOf, fieldsPart, taskText}
+use Rattle.lines.specs.Fields.{headLineFault, taskLineFault, textHead, textTask, lineFault}
+use Rattle.lines.specs.Reads.{refused, accepted, stopped, passed, headRead, taskAnswer, withTasks}
+use Rattle.lines.specs.Reads.{wrongTask, TasksDue, tasksRead, frontBy, frontOf, wholeAnswer, wholeOf}
+use Rattle.lines.specs.Reads.{readOf}
 use Rattle.lines.proofs.FormLaws.{start-first, start-next, start-small}
-use Rattle.lines.proofs.LineLaws.{head-frame-fault, head-fields-fault, head-line-right}
-use Rattle.lines.proofs.LineLaws.{task-line-frame, part-long}
-use Rattle.lines.proofs.LineLaws.{wrong-answer, right-answer}
+use Rattle.lines.proofs.LineLaws.{head-line-frame, head-line-right, task-line-frame}
+use Rattle.lines.proofs.LineLaws.{unfit-answer, fit-answer, wrong-answer, right-answer}
 
 module _ (f : Form) (s : List ℕ) where
   -- the line of task i has a fault
@@ -77,26 +80,23 @@ module _ (f : Form) (s : List ℕ) where
   unfolding frontBy
   head-passed e = rw e
 
--- A table with other tasks, and with one more task stored in its place.
+-- A table with other tasks.
 abbrev pub places : Table → List Task → Table
 places t ts = record { cores = t .cores; policy = t .policy; n = t .n; tasks = ts }
 
-abbrev put : Table → ℕ → Task → Table
-put t i x = places t (set (t .tasks) i x)
-
 -- What is known before the line of task i, which starts at `at`: the lines passed are right, and stored.
-pub record Progress (f : Form) (s : List ℕ) (h table : Table) (i at place : ℕ) : Type 0 where
+pub record Progress (f : Form) (s : List ℕ) (h : Table) (tasks : List Task) (i at place : ℕ) : Type 0 where
   pub range : h .n ≤ 32
   pub low : i ≤ h .n
   pub here : at ≡ lineStart f i
   pub line : place ≡ i + 2
   pub inside : at ≤ length s
   pub before : NoneTo (wrongLine f s) i
-  pub stored : table ≡ withTasks f h s i
+  pub stored : tasks ≡ row noTask (textTask f s) i
 
 module _ (f : Form) (s : List ℕ) (h : Table) where
-  pub progress-start : TasksDue f s h → Progress f s h h 0 (lineLength (f .head .size)) 2
-  unfolding withTasks
+  pub progress-start : TasksDue f s h
+      → Progress f s h (replicate 32 noTask) 0 (lineLength (f .head .size)) 2
   progress-start due = record {
     range = due .range;
     low = omega arith;
@@ -104,10 +104,10 @@ module _ (f : Form) (s : List ℕ) (h : Table) where
     line = refl;
     inside = omega (arith, due .long, start-first f);
     before = find-start (wrongLine f s);
-    stored = ap (places h) (due .empty ∙ fill-start noTask (textTask f s));
+    stored = fill-start noTask (textTask f s);
   }
 
-  module _ (table : Table) (i at place : ℕ) (p : Progress f s h table i at place) where
+  module _ (tasks : List Task) (i at place : ℕ) (p : Progress f s h tasks i at place) where
     -- no line starts far off
     pub progress-small : FormSized f → at ≤ 1067
     progress-small z = omega (arith, p .here, start-small f i z (omega (arith, p .low, p .range)))
@@ -123,8 +123,7 @@ module _ (f : Form) (s : List ℕ) (h : Table) where
         )
 
     progress-step : i < h .n → lineFault f s i ≡ 0
-        → Progress f s h (put table i (textTask f s i)) (i + 1) (at + lineLength (f .task .size)) (place + 1)
-    unfolding withTasks
+        → Progress f s h (set tasks i (textTask f s i)) (i + 1) (at + lineLength (f .task .size)) (place + 1)
     progress-step l right = record {
       range = p .range;
       low = omega arith;
@@ -132,15 +131,14 @@ module _ (f : Form) (s : List ℕ) (h : Table) where
       line = omega (arith, p .line);
       inside = progress-inside right;
       before = find-step (wrongLine f s) (p .before) (line-right f s i right);
-      stored =
-          ap (λ t. put t i (textTask f s i)) (p .stored)
-          ∙ ap (places h) (fill-step noTask (textTask f s) (omega (arith, p .range)) refl refl);
+      stored = fill-step noTask (textTask f s) (omega (arith, p .range)) (p .stored) refl;
     }
 
-    pub progress-end : h .n ≤ i → passed table at ≡ tasksRead f s h
+    pub progress-end : h .n ≤ i → passed (places h tasks) at ≡ tasksRead f s h
+    unfolding withTasks
     progress-end done =
         let e : i ≡ h .n = omega (arith, p .low) in
-        ap₂ passed (p .stored ∙ ap (withTasks f h s) e) (p .here ∙ ap (lineStart f) e)
+        ap₂ passed (ap (places h) (p .stored) ∙ ap (withTasks f h s) e) (p .here ∙ ap (lineStart f) e)
         ∙ sym (tasks-passed f s h (λ j m. p .before j (omega arith)))
 
     -- by the answer of the line at hand
@@ -158,38 +156,41 @@ module _ (f : Form) (s : List ℕ) (h : Table) where
           ∙ sym (task-stopped f s h i y (p .before) l (ap (taskLineFault f) (sym here-is) ∙ a .0) (a .1))
 
       pub progress-right : (t : Task) → r ≡ Right t
-          → Progress f s h (put table i t) (i + 1) (at + lineLength (f .task .size)) (place + 1)
+          → Progress f s h (set tasks i t) (i + 1) (at + lineLength (f .task .size)) (place + 1)
       progress-right t w =
           let a : (taskLineFault f x ≡ 0) × (t ≡ taskOf (fieldsPart x)) = right-answer _ _ t (sym e ∙ w) in
           subst
-          (λ (u : Task). Progress f s h (put table i u) (i + 1) (at + lineLength (f .task .size)) (place + 1))
+          (λ (u : Task). Progress f s h (set tasks i u) (i + 1) (at + lineLength (f .task .size)) (place + 1))
           (sym (a .1 ∙ ap (λ y. taskOf (fieldsPart y)) here-is))
           (progress-step l (ap (taskLineFault f) (sym here-is) ∙ a .0))
 
--- The head line: refused by its frame, refused by its fields, or read on.
-pub frame-stopped : (f : Form) (s : List ℕ) (x : ℕ) → x ≡ headFrameFault f s → (x ≡ 0 → ⊥)
-    → stopped x 1 ≡ frontBy f s
-frame-stopped f s x e some = sym (head-stopped f s x (head-frame-fault f s x e some) some)
+-- By the answer of the head line.
+module _ (f : Form) (s : List ℕ) (r : HeadLine) (e : r ≡ headRead f s) where
+  pub head-unfit : (x : ℕ) → r ≡ Unfit x → stopped x 1 ≡ frontBy f s
+  head-unfit x w =
+      let a : (headLineFault f s ≡ x) × (x ≡ 0 → ⊥) =
+      unfit-answer (numbersOf (textHead s)) _ x (sym e ∙ w)
+      in
+      sym (head-stopped f s x (a .0) (a .1))
 
-module _ (f : Form) (s : List ℕ) (h : Table) (x : ℕ) (right : headFrameFault f s ≡ 0) (e : h ≡ textHead s)
-    (g : x ≡ headFaultOf h) where
-  fault-is : headLineFault f s ≡ x
-  fault-is = head-fields-fault f s x right (g ∙ ap headFaultOf e)
+  module _ (h : Head) (w : r ≡ Fit h) where
+    fit : (headLineFault f s ≡ 0) × (h ≡ numbersOf (textHead s))
+    fit = fit-answer (numbersOf (textHead s)) _ h (sym e ∙ w)
 
-  pub fields-stopped : (x ≡ 0 → ⊥) → stopped x 1 ≡ frontBy f s
-  fields-stopped some = sym (head-stopped f s x fault-is some)
+    empty-is : emptyTable h ≡ textHead s
+    unfolding headOf
+    empty-is = ap emptyTable (fit .1)
 
-  pub reads-on : x ≡ 0 → tasksRead f s h ≡ frontBy f s
-  reads-on none = ap (tasksRead f s) e ∙ sym (head-passed f s (fault-is ∙ none))
+    pub head-fit : tasksRead f s (emptyTable h) ≡ frontBy f s
+    head-fit = ap (tasksRead f s) empty-is ∙ sym (head-passed f s (fit .0))
 
-  pub reads-ready : FormSized f → x ≡ 0 → TasksDue f s h
-  unfolding headOf
-  reads-ready sized none = record {
-    sized = sized;
-    long = omega (arith, part-long s _ _ right, start-first f);
-    range = head-legal {h = h} (sym g ∙ none) .count .1;
-    empty = ap (λ (t : Table). t .tasks) e;
-  }
+    pub head-due : FormSized f → TasksDue f s (emptyTable h)
+    head-due sized = record {
+      sized = sized;
+      long = omega (arith, head-line-frame f s (fit .0) .text .long, start-first f);
+      range = rw (fit .1) (head-legal {h = textHead s} (head-line-right f s (fit .0)) .count .1);
+      empty = refl;
+    }
 
 -- What holds of a refused front and of a front with a legal head holds of every front.
 pub front-all : (f : Form) (s : List ℕ) (P : Front → Type 0) → ((x p : ℕ) → P (stopped x p))

@@ -2,7 +2,8 @@
 --
 --   document 01                                              here
 --   the part after the kind byte                             fieldsPart s
---   cores, policy, n                                         headOf p: a table with no task yet
+--   cores, policy, n                                         headOf p: a table with no task yet; numbersOf t
+--                                                            alone, and emptyTable h with no task again
 --   flag, T, C, D (4 bytes each)                             taskOf p
 --   1, 2, 3, 4 of the due line's frame                       headFrameFault f s, taskFrameFault f s
 --   then 5, 6, 7 (in a task 8, 9, 10, 11)                    headLineFault f s, taskLineFault f s; 0 for none
@@ -21,6 +22,7 @@ use Rattle.table.specs.Checks.{headFaultOf, taskFault}
 use Rattle.frames.specs.Digits.{byteAt, wordAt}
 use Rattle.frames.specs.Frames.{frameFault}
 use Rattle.lines.specs.declared.Form.{Form}
+use Rattle.lines.specs.declared.Head.{Head}
 use Rattle.lines.specs.Form.{lineStart}
 
 abbrev pub taskText : Form → List ℕ → ℕ → List ℕ
@@ -31,6 +33,12 @@ fieldsPart s = drop 2 s
 
 unfoldable pub headOf : List ℕ → Table
 headOf p = record { cores = byteAt p 0; policy = byteAt p 1; n = byteAt p 2; tasks = replicate 32 noTask }
+
+abbrev pub numbersOf : Table → Head
+numbersOf t = record { cores = t .cores; policy = t .policy; n = t .n }
+
+abbrev pub emptyTable : Head → Table
+emptyTable h = record { cores = h .cores; policy = h .policy; n = h .n; tasks = replicate 32 noTask }
 
 unfoldable pub taskOf : List ℕ → Task
 taskOf p = record { flag = byteAt p 0; period = wordAt p 1; cost = wordAt p 5; deadline = wordAt p 9 }

@@ -29,12 +29,15 @@ use Rattle.table.specs.Table.{noTask}
 use Rattle.table.specs.Checks.{faulty}
 use Rattle.lines.specs.declared.Form.{Form}
 use Rattle.lines.specs.declared.Front.{Front}
+use Rattle.lines.specs.declared.Head.{Head}
+use Rattle.lines.specs.declared.HeadLine.{HeadLine}
+use Rattle.lines.specs.declared.HeadLine.the-variants.{Fit, Unfit}
 use Rattle.lines.specs.declared.Reading.{Reading}
 use Rattle.lines.specs.declared.TaskLine.{TaskLine}
 use Rattle.lines.specs.declared.TaskLine.the-variants.{Right, Wrong}
 use Rattle.lines.specs.Form.{form1, lineStart, FormSized}
 use Rattle.lines.specs.Fields.{fieldsPart, taskOf, textHead, textTask, headLineFault, taskLineFault}
-use Rattle.lines.specs.Fields.{lineFault}
+use Rattle.lines.specs.Fields.{numbersOf, lineFault}
 
 abbrev pub noTable : Table
 noTable = record { cores = 0; policy = 0; n = 0; tasks = replicate 32 noTask }
@@ -59,6 +62,13 @@ numberOf (Refused r) = r .number
 abbrev pub placeOf : Checked → ℕ
 placeOf Fine = 0
 placeOf (Refused r) = r .place
+
+-- by a head line's first fault: its numbers, or the fault's number
+abbrev pub headAnswer : Head → ℕ → HeadLine
+headAnswer h fault = orElse fault (Fit h) (λ f. Unfit (suc f))
+
+abbrev pub headRead : Form → List ℕ → HeadLine
+headRead f s = headAnswer (numbersOf (textHead s)) (headLineFault f s)
 
 -- by a task line's first fault: the task, or the fault's number
 abbrev pub taskAnswer : Task → ℕ → TaskLine

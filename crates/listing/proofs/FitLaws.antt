@@ -15,14 +15,14 @@ use Rattle.planner.specs.Answers.{recordAt}
 use Rattle.page.specs.Decimal.{decimal}
 use Rattle.page.specs.Words.{word, either}
 use Rattle.page.proofs.DecimalLaws.{tens, decimal-short}
-use Rattle.listing_lines.specs.Lines.{lineOne, taskStart, lastLine, refusalLine}
+use Rattle.listing_lines.specs.Lines.{lineOne, lastLine, refusalLine}
+use Rattle.task_lines.specs.TaskLines.{taskStart}
 use Rattle.table.specs.Load.{loadAt, totalLoad}
 use Rattle.table.proofs.LoadLaws.{loadAt-small, loads-small}
 use Rattle.listing.specs.Listing.{rowAt, lineAt, linesTo, acceptedText, listingRoom}
+use Rattle.task_lines.proofs.TaskLaws.{start-length, task-length}
 use Rattle.listing_lines.proofs.LineLaws.{
   line-one-length,
-  start-length,
-  task-length,
   last-length,
   refusal-length,
   refusal-length-14,

@@ -33,7 +33,8 @@ use Rattle.planner.specs.Done.{forceDone, legalDone, roomDone, planDone}
 use Rattle.page.specs.Decimal.{digits, decimal}
 use Rattle.page.specs.Words.{word}
 use Rattle.table.specs.Load.{load, totalLoad}
-use Rattle.listing_lines.specs.Lines.{lineOne, taskStart, taskLineText, lastLine, refusalLine}
+use Rattle.listing_lines.specs.Lines.{lineOne, lastLine, refusalLine}
+use Rattle.task_lines.specs.TaskLines.{taskStart, taskLineText}
 use Rattle.listing.specs.Listing.{linesTo, acceptedText, listingOf}
 
 pub example : listingOf

@@ -15,8 +15,8 @@ use Rattle.planner.specs.declared.Record.{Record}
 use Rattle.planner.specs.Answers.{recordAt}
 use Rattle.buffer.specs.Put.{Put}
 use Rattle.buffer.proofs.PutLaws.{put-none, put-then, put-length}
-use Rattle.listing_lines.specs.declared.TaskRow.{TaskRow}
-use Rattle.listing_lines.specs.Lines.{taskLineText}
+use Rattle.task_lines.specs.declared.TaskRow.{TaskRow}
+use Rattle.task_lines.specs.TaskLines.{taskLineText}
 use Rattle.listing.specs.Listing.{lineAt, linesTo}
 
 -- more places are at least as long

@@ -6,7 +6,7 @@
 --   what the plan printer writes                   listingOf text
 --   what a buffer holds then                       Listed
 --
--- The lines themselves are in the crate listing_lines. Assumes nothing.
+-- The lines themselves are in the crates listing_lines and task_lines. Assumes nothing.
 use Prim.Native.Nat.{ℕ, zero, suc, _+_, _≤_}
 use mathlib.Core.Path.{_≡_}
 use mathlib.Core.List.{List, [], _++_}
@@ -23,9 +23,10 @@ use Rattle.planner.specs.declared.Answer.{Answer}
 use Rattle.planner.specs.declared.Answer.the-variants.{Given, Refused}
 use Rattle.planner.specs.Answers.{recordAt}
 use Rattle.planner.specs.Done.{planDone}
-use Rattle.listing_lines.specs.declared.TaskRow.{TaskRow}
+use Rattle.task_lines.specs.declared.TaskRow.{TaskRow}
 use Rattle.table.specs.Load.{loadAt, totalLoad}
-use Rattle.listing_lines.specs.Lines.{lineOne, taskLineText, lastLine, refusalLine}
+use Rattle.listing_lines.specs.Lines.{lineOne, lastLine, refusalLine}
+use Rattle.task_lines.specs.TaskLines.{taskLineText}
 
 -- what the line of the task at a place shows; its number counts from 1
 abbrev pub rowAt : Table → List Record → ℕ → TaskRow

@@ -4,13 +4,13 @@ ghost use lib.ListN.{length};
 ghost use Rattle.table.specs.Table.{LegalTable};
 ghost use Rattle.buffer.specs.Put.{Put};
 ghost use Rattle.listing.specs.Listing.{linesTo, lineAt, acceptedText, answerText, Ready, Listed};
-use listing_lines::TaskRow;
 use planner::Answer;
 use planner::Done;
 use planner::Job;
 use planner::Record;
 use table::Checked;
 use table::Table;
+use task_lines::TaskRow;
 
 // Every listing fits in so many bytes.
 pub const LISTING_ROOM: usize = 2048;
@@ -36,7 +36,7 @@ fn put_tasks(out: &mut [u8], at: usize, t: Table, recs: [Record; 32]) -> usize
             deadline: task.deadline,
             load: table::task_load(task.cost, task.period),
         };
-        place = listing_lines::put_task(out, place, row);
+        place = task_lines::put_task(out, place, row);
         i += 1;
     }
     place
@@ -77,7 +77,7 @@ pub fn write_listing(text: &[u8], out: &mut [u8]) -> usize
     if out.len() < LISTING_ROOM {
         return 0;
     }
-    let reading = lines::read_plan(text);
+    let reading = reader::read_plan(text);
     let found = reading.answer;
     let table = reading.table;
     match found {

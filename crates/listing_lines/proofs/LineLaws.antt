@@ -4,19 +4,14 @@ use Prim.Native.Nat.{ℕ, _+_, _≤_}
 use mathlib.Core.Bool.{Bool, true, false}
 use native.Mathlib.Omega.{arith}
 use mathlib.Core.Path.{_≡_, refl, ap, _∙_}
-use mathlib.Core.List.{List, _++_, append-assoc, append-nil}
+use mathlib.Core.List.{_++_, append-assoc, append-nil}
 use lib.ListN.{length, length-append}
 use lib.Dec.{eqb}
 use borrow.Author.Tests.{eq-eqb, ne-eqb, eqb-true, eqb-false}
 use Rattle.page.specs.Decimal.{decimal}
-use Rattle.page.specs.Words.{word, either}
+use Rattle.page.specs.Words.{word, either, field}
 use Rattle.page.proofs.WordLaws.{either-after}
-use Rattle.listing_lines.specs.declared.TaskRow.{TaskRow}
-use Rattle.listing_lines.specs.Lines.{lineOne, taskStart, taskLineText, lastLine, refusalLine}
-
--- a word with a number after it
-abbrev pub field : List ℕ → ℕ → List ℕ
-field w n = w ++ decimal n
+use Rattle.listing_lines.specs.Lines.{lineOne, lastLine, refusalLine}
 
 module _ (policy cores n : ℕ) where
   pub line-one-parts : lineOne policy cores n
@@ -32,42 +27,6 @@ module _ (policy cores n : ℕ) where
       + length (decimal n)
       + 15
   line-one-length = ap length line-one-parts ∙ simp length-append (omega arith)
-
-module _ (number flag forced : ℕ) where
-  pub start-parts : taskStart number flag forced
-      ≡ field (word "task ") number
-      ++ (either flag (word " N") (word " P") ++ either forced (word " given") (word " forced"))
-  unfolding taskStart
-  start-parts =
-      simp (
-        append-assoc,
-        append-nil,
-        either-after flag (word " ") (word "N") (word "P"),
-        either-after forced (word " ") (word "given") (word "forced"),
-      )
-
-  pub start-length : length (taskStart number flag forced)
-      ≡ length (decimal number)
-      + length (either flag (word " N") (word " P"))
-      + length (either forced (word " given") (word " forced"))
-      + 5
-  start-length = ap length start-parts ∙ simp length-append (omega arith)
-
-module _ (r : TaskRow) where
-  pub task-parts : taskLineText r
-      ≡ taskStart (r .number) (r .flag) (r .forced)
-      ++ (field (word " bound ") (r .bound)
-      ++ (field (word " deadline ") (r .deadline) ++ (field (word " load ") (r .load) ++ word "\n")))
-  unfolding taskLineText
-  task-parts = simp (append-assoc, append-nil)
-
-  pub task-length : length (taskLineText r)
-      ≡ length (taskStart (r .number) (r .flag) (r .forced))
-      + length (decimal (r .bound))
-      + length (decimal (r .deadline))
-      + length (decimal (r .load))
-      + 24
-  task-length = ap length task-parts ∙ simp length-append (omega arith)
 
 module _ (total forced passes : ℕ) where
   pub last-parts : lastLine total forced passes

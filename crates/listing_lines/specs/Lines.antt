@@ -1,9 +1,7 @@
--- Document 01, "The listing": the bytes of each line.
+-- Document 01, "The listing": the bytes of each line but those of tasks.
 --
 --   document 01                                                  here
 --   line one: policy, cores, tasks                               lineOne
---   a task's line: number, flag, forced or given,                taskLineText, of a row of these
---     bound, deadline, load
 --   last line: total load, forced count, passes                  lastLine
 --   a refused plan's one line; for 14 the passes follow          refusalLine
 --
@@ -14,8 +12,7 @@ use mathlib.Core.List.{List, [], _∷_}
 use lib.Dec.{eqb}
 use Rattle.base.specs.Choice.{pick}
 use Rattle.page.specs.Decimal.{decimal}
-use Rattle.page.specs.Words.{word, either, spaced, line}
-use Rattle.listing_lines.specs.declared.TaskRow.{TaskRow}
+use Rattle.page.specs.Words.{word, either, line}
 
 unfoldable pub lineOne : ℕ → ℕ → ℕ → List ℕ
 lineOne policy cores n =
@@ -24,24 +21,6 @@ lineOne policy cores n =
     ∷ either policy (word "EDF") (word "FP")
     ∷ word "cores" ∷ decimal cores
     ∷ word "tasks" ∷ decimal n
-    ∷ [])
-
--- the words of a task's line up to forced or given
-unfoldable pub taskStart : ℕ → ℕ → ℕ → List ℕ
-taskStart number flag forced =
-    spaced
-    (word "task" ∷ decimal number
-    ∷ either flag (word "N") (word "P")
-    ∷ either forced (word "given") (word "forced")
-    ∷ [])
-
-unfoldable pub taskLineText : TaskRow → List ℕ
-taskLineText r =
-    line
-    (taskStart (r .number) (r .flag) (r .forced)
-    ∷ word "bound" ∷ decimal (r .bound)
-    ∷ word "deadline" ∷ decimal (r .deadline)
-    ∷ word "load" ∷ decimal (r .load)
     ∷ [])
 
 unfoldable pub lastLine : ℕ → ℕ → ℕ → List ℕ

@@ -4,13 +4,15 @@
 -- Assumes nothing.
 use Prim.Native.Nat.{ℕ, zero, suc, _+_, _-_, _≤_, _<_}
 use native.Mathlib.Omega.{arith}
-use mathlib.Core.Path.{_≡_, refl, sym, ap, _∙_}
+use mathlib.Core.Path.{_≡_, refl, sym, ap, ap₂, _∙_}
 use mathlib.Core.List.{List}
 use Rattle.base.specs.Sums.{sumTo}
 use Rattle.base.proofs.SumLaws.{sum-cap, sum-same}
 use Rattle.model.specs.Bound.{System, bound}
-use Rattle.base.specs.Rows.{at}
-use Rattle.model.specs.Forcing.{test, lacks, lacking, made, Final, run, force}
+use Rattle.base.specs.Rows.{at, listOf}
+use Rattle.base.proofs.RowLaws.{list-same}
+use Rattle.model.specs.Forcing.{test, lacks, lacking, made, Final, choose, run}
+use Rattle.model.specs.Forcing.{force}
 use Rattle.model.specs.Demands.{Timed, Flags, Same, Alike}
 use Rattle.model.proofs.ForcingLaws.{alike-refl, test-at, made-at, made-count, made-flags, run-last}
 use Rattle.model.proofs.ForcingLaws.{run-more, run-same}
@@ -85,3 +87,36 @@ module _ (s : System) (timed : Timed s) (start : List ℕ) where
             few = omega (arith, fewer, a .few);
             small = omega (arith, fewer, a .small);
           }
+
+-- Forcing reads a system by its bounds alone: where two give the same bounds it ends the same way.
+module _ (s s′ : System) (count : s′ .count ≡ s .count)
+    (bounds : (fl : ℕ → ℕ) (k : ℕ) → k < s .count → bound s′ fl k ≡ bound s fl k)
+  where
+    test-by-bounds : (fs : List ℕ) → test s′ fs ≡ test s fs
+    unfolding test
+    test-by-bounds fs = ap (listOf (bound s′ (at fs))) count ∙ list-same _ _ (s .count) (bounds (at fs))
+
+    made-by-bounds : (fs : List ℕ) → made s′ fs (test s′ fs) ≡ made s fs (test s fs)
+    unfolding made
+    made-by-bounds fs =
+        ap₂ (λ bs n. listOf (λ k. at fs k - lacks (at fs k) (at bs k)) n) (test-by-bounds fs) count
+
+    lacking-by-bounds : (fs : List ℕ) → lacking s′ fs (test s′ fs) ≡ lacking s fs (test s fs)
+    unfolding lacking
+    lacking-by-bounds fs =
+        ap₂ (λ bs n. sumTo (λ k. lacks (at fs k) (at bs k)) n) (test-by-bounds fs) count
+
+    run-by-bounds : (f : ℕ) (fs : List ℕ) (p : ℕ) → run s′ f fs p ≡ run s f fs p
+    unfolding run
+    run-by-bounds zero fs p =
+        ap (λ bs. record { flags = fs; bounds = bs; passes = suc p }) (test-by-bounds fs)
+    run-by-bounds (suc f) fs p =
+        ap₂ (λ x bs. choose x (record { flags = fs; bounds = bs; passes = suc p })
+        (run s′ f (made s′ fs (test s′ fs)) (suc p))) (lacking-by-bounds fs) (test-by-bounds fs)
+        ∙ ap (choose (lacking s fs (test s fs)) (record { flags = fs; bounds = test s fs; passes = suc p }))
+        (ap (λ xs. run s′ f xs (suc p)) (made-by-bounds fs)
+        ∙ run-by-bounds f (made s fs (test s fs)) (suc p))
+
+    pub force-by-bounds : (fs : List ℕ) → force s′ fs ≡ force s fs
+    unfolding force
+    force-by-bounds fs = ap (λ n. run s′ n fs 0) count ∙ run-by-bounds (s .count) fs 0

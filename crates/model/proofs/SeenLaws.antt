@@ -3,13 +3,13 @@
 -- together: the bound depends on what the task sees alone. The idea: a task that is not seen adds 0 to the
 -- sum and 0 to the candidates, so the sum over the places is the sum over the list of what is seen.
 -- Assumes nothing.
-use Prim.Native.Nat.{ℕ, zero, suc, _+_, _-_, _/_, _<_, max}
+use Prim.Native.Nat.{ℕ, zero, suc, _+_, _-_, _/_, _≤_, _<_, max}
 use native.Mathlib.Omega.{arith}
 use native.Mathlib.Nat.{le-of-eq, le-refl, le-antisymm}
 use mathlib.Core.Path.{_≡_, refl, sym, ap₂}
 use mathlib.Core.List.{List, [], _∷_}
 use mathlib.Core.Bool.{Bool, true, false}
-use mathlib.Core.Logic.{_⊎_, inl, inr}
+use mathlib.Core.Logic.{_⊎_, inl, inr, ⊎-elim}
 use lib.Dec.{eqb}
 use borrow.Author.Tests.{eqb-true, eqb-false}
 use Rattle.base.specs.Choice.{pick}
@@ -176,3 +176,22 @@ module _ (s s′ : System) (fl fl′ : ℕ → ℕ) (k k′ : ℕ) (fp : s .poli
         (bound-from-B s s′ fl fl′ k k′ pos time deadline flag (λ l. le-of-eq (sym (B-same l))))
         (bound-from-B s′ s fl′ fl k′ k (omega arith) (sym time) (sym deadline) (sym flag)
         (λ l. le-of-eq (B-same l)))
+
+-- Under FP the flags of higher tasks count for nothing: flags that differ only there give k the same bound.
+module _ (s : System) (fl fl′ : ℕ → ℕ) (k : ℕ) (own : fl′ k ≡ fl k)
+    (same : (i : ℕ) → i < s .count → (s .higher k i ≡ true) ⊎ (fl′ i ≡ fl i))
+  where
+    sees-same : (i : ℕ) → i < s .count → sees s fl′ k i ≡ sees s fl k i
+    unfolding sees
+    sees-same i lt = ⊎-elim (λ h. rw h refl) (λ e. rw e refl) (same i lt)
+
+    seen-same : (n : ℕ) → n ≤ s .count → seenTo s fl′ k n ≡ seenTo s fl k n
+    unfolding seenTo
+    seen-same zero le = refl
+    seen-same (suc n) le =
+        ap₂ (λ b xs. pick b (seenAt s k n ∷ xs) xs) (sees-same n le) (seen-same n (omega arith))
+
+    pub fp-above : s .policy ≡ FP → 0 < s .C k → bound s fl k ≡ bound s fl′ k
+    unfolding seen
+    fp-above fp pos =
+        fp-independent s s fl fl′ k k fp fp refl refl refl own (seen-same (s .count) (le-refl _)) pos

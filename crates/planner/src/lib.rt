@@ -2,15 +2,16 @@
 // the legal table is answered. Document 01, "Testing and forcing" and "Numbered refusals".
 ghost use mathlib.Core.Path.{_≡_};
 ghost use Prim.Native.Nat.{_≤_};
-ghost use lib.Dec.{eqb};
-ghost use Rattle.base.specs.Least.{firstOf};
 ghost use Rattle.base.specs.Rows.{at};
 ghost use Rattle.table.specs.Table.{LegalTable};
-ghost use Rattle.flags.specs.Flags.{flagIn};
+ghost use Rattle.flags.specs.Flags.{flagIn, held};
+ghost use Rattle.rows.specs.Held.{LegalRows};
 ghost use Rattle.planner.specs.Answers.{changes, recordsOf};
 ghost use Rattle.planner.specs.Done.{refuse, testDone, forceDone, legalDone, roomDone, planDone};
 ghost use Rattle.planner.specs.Done.{listDone};
+ghost use Rattle.planner.specs.Rows.{OfTable};
 use flags::Flags;
+use rows::Head;
 use table::Checked;
 use table::Refusal;
 use table::Table;
@@ -74,9 +75,10 @@ fn refused(why: Refusal, passes: u32) -> Done
 }
 
 // A record for each of the first n tasks, with the forced mark where the flag is not the given one.
-fn records(n: usize, given: Flags, flags: Flags, bounds: [u32; 32]) -> [Record; 32]
+fn records(n: usize, given: Flags, flags: Flags, bounds: &[u32; 32]) -> [Record; 32]
     requires { ⌜ n ≤ 32 ⌝ }
-    ensures { λ r. ⌜ r ≡ recordsOf n (flagIn flags) (changes (flagIn given) (flagIn flags)) (at bounds) ⌝ }
+    ensures { λ r. ⌜ r ≡ recordsOf n (flagIn flags) (changes (flagIn given) (flagIn flags))
+        (at (now (bounds .entry))) ⌝ }
 {
     let mut recs = [NO_RECORD; 32];
     let mut i: usize = 0;
@@ -94,23 +96,23 @@ fn records(n: usize, given: Flags, flags: Flags, bounds: [u32; 32]) -> [Record; 
     recs
 }
 
-// The number of the lowest task without a bound, and 0 where all have one.
-fn failing_task(n: usize, bounds: [u32; 32]) -> u32
-    requires { ⌜ n ≤ 32 ⌝ }
-    ensures { λ r. ⌜ r ≡ firstOf (λ k. eqb (at bounds k) 0) n ⌝ }
+// The test of the rows of a legal table, and its flags.
+fn tested<'a>(
+    head: Head,
+    inverse: &'a [u64; 32],
+    rest: &'a [u32; 32],
+    cost: &'a [u32; 32],
+    reach: &'a [u32; 32],
+    given: Flags,
+) -> Done
+    requires { ⌜ LegalRows head (now inverse) (now rest) (now cost) (now reach) ⌝ }
+    ensures { λ r. ⌜ OfTable testDone head (now (inverse .entry)) (now (rest .entry)) (now (cost .entry))
+        (now (reach .entry)) given r ⌝ }
 {
-    flags::lowest_failing(flags::failing_of(n, bounds))
-}
-
-// The test of a legal table.
-fn tested(t: Table) -> Done
-    requires { ⌜ LegalTable t ⌝ }
-    ensures { λ r. ⌜ r ≡ testDone t ⌝ }
-{
-    let n = t.n;
-    let given = flags::flags_of(t);
-    let bounds = forcing::test_table(t);
-    let failing = failing_task(n, bounds);
+    let n = head.n;
+    let mut bounds = [0u32; 32];
+    passes::test_rows(head, inverse, rest, cost, reach, given, &mut bounds);
+    let failing = flags::lowest_failing(flags::failing_of(n, &bounds));
     let verdict = Verdict {
         yes: failing == 0,
         forced: 0,
@@ -119,21 +121,28 @@ fn tested(t: Table) -> Done
     Done {
         answer: Answer::Given(verdict),
         count: n,
-        recs: records(n, given, given, bounds),
+        recs: records(n, given, given, &bounds),
     }
 }
 
-// Forcing of a legal table: refused with the lowest failing task and the passes, or accepted.
-fn forced(t: Table) -> Done
-    requires { ⌜ LegalTable t ⌝ }
-    ensures { λ r. ⌜ r ≡ forceDone t ⌝ }
+// Forcing of them: refused with the lowest failing task and the passes, or accepted.
+fn forced<'a>(
+    head: Head,
+    inverse: &'a [u64; 32],
+    rest: &'a [u32; 32],
+    cost: &'a [u32; 32],
+    reach: &'a [u32; 32],
+    given: Flags,
+) -> Done
+    requires { ⌜ (LegalRows head (now inverse) (now rest) (now cost) (now reach))
+        × (given ≡ held (flagIn given) (head .n)) ⌝ }
+    ensures { λ r. ⌜ OfTable forceDone head (now (inverse .entry)) (now (rest .entry)) (now (cost .entry))
+        (now (reach .entry)) given r ⌝ }
 {
-    let n = t.n;
-    let given = flags::flags_of(t);
-    let end = forcing::force_table(t);
-    let flags = end.flags;
-    let bounds = end.bounds;
-    let failing = failing_task(n, bounds);
+    let n = head.n;
+    let mut bounds = [0u32; 32];
+    let end = forcing::force_rows(head, inverse, rest, cost, reach, given, &mut bounds);
+    let failing = end.failing;
     if failing != 0 {
         let why = Refusal {
             number: 14,
@@ -141,6 +150,7 @@ fn forced(t: Table) -> Done
         };
         return refused(why, end.passes);
     }
+    let flags = end.flags;
     let verdict = Verdict {
         yes: true,
         forced: flags::count_changed(given, flags),
@@ -149,18 +159,24 @@ fn forced(t: Table) -> Done
     Done {
         answer: Answer::Given(verdict),
         count: n,
-        recs: records(n, given, flags, bounds),
+        recs: records(n, given, flags, &bounds),
     }
 }
 
-// What a legal table is answered.
+// What a legal table is answered, from its rows and flags.
 pub fn legal_done(t: Table, job: Job) -> Done
     requires { ⌜ LegalTable t ⌝ }
     ensures { λ r. ⌜ r ≡ legalDone t job ⌝ }
 {
+    let mut inverse = [0u64; 32];
+    let mut rest = [0u32; 32];
+    let mut cost = [0u32; 32];
+    let mut reach = [0u32; 32];
+    let head = rows::rows_of(t, &mut inverse, &mut rest, &mut cost, &mut reach);
+    let given = flags::flags_of(t);
     match job {
-        Job::Test => tested(t),
-        Job::Force => forced(t),
+        Job::Test => tested(head, &inverse, &rest, &cost, &reach, given),
+        Job::Force => forced(head, &inverse, &rest, &cost, &reach, given),
     }
 }
 
@@ -184,7 +200,7 @@ fn room_done(t: Table, job: Job, room: usize) -> Done
 pub fn plan_done(text: &[u8], job: Job, room: usize) -> Done
     ensures { λ r. ⌜ r ≡ planDone (now (text .entry)) job room ⌝ }
 {
-    let reading = lines::read_plan(text);
+    let reading = reader::read_plan(text);
     let found = reading.answer;
     let t = reading.table;
     match found {

@@ -129,7 +129,7 @@ pub fn write_test(text: &[u8], out: &mut [u8]) -> usize
     if out.len() < TEST_ROOM {
         return 0;
     }
-    let reading = lines::read_plan(text);
+    let reading = reader::read_plan(text);
     let found = reading.answer;
     let table = reading.table;
     match found {

@@ -66,7 +66,7 @@ fn say_read(t: Table) {
 
 // The line of a text; whether it was written.
 pub fn say(text: &[u8]) -> bool {
-    let r = lines::read_plan(text);
+    let r = reader::read_plan(text);
     let a = r.answer;
     let t = r.table;
     match a {

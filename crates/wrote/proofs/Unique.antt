@@ -8,22 +8,12 @@ use borrow.Fn.Kinds.{Dens, resT, endedOf}
 use contract.Lifetimes.{Lfts}
 use denote.Ref.{now}
 use denote.Triple.Clauses.{AtExit}
-use Rattle.base.proofs.Unique.{Only, only}
+use Rattle.base.proofs.Unique.{only}
 use Rattle.wrote.specs.Wrote.{Wrote}
-use Rattle.wrote.proofs.told_written.Kinds as told-written
-use Rattle.wrote.proofs.told_written.Reads as told-written-reads
-use Rattle.wrote.proofs.told_changed.Kinds as told-changed
-use Rattle.wrote.proofs.told_changed.Reads as told-changed-reads
 use Rattle.wrote.proofs.write_tasks.Kinds as write-tasks
 use Rattle.wrote.proofs.write_tasks.Reads as write-tasks-reads
 use Rattle.wrote.proofs.write_changed.Kinds as write-changed
 use Rattle.wrote.proofs.write_changed.Reads as write-changed-reads
-
-pub told-written-only : Only 0 told-written.ps told-written.r told-written-reads.Post
-told-written-only κs a x y s s′ p q = only p q
-
-pub told-changed-only : Only 0 told-changed.ps told-changed.r told-changed-reads.Post
-told-changed-only κs a x y s s′ p q = only p q
 
 -- of whatever is said
 pub wrote-only : {said after told : List ℕ} {r r′ : ℕ} {new new′ told₁ told₂ : List ℕ}

@@ -1,26 +1,23 @@
 -- From what the writer and the numbers of an answer promise to the promises of the calls. Assumes nothing.
-use Prim.Native.Nat.{ℕ, _+_, _*_}
-use native.Mathlib.Omega.{arith}
+use Prim.Native.Nat.{ℕ}
 use mathlib.Core.Path.{_≡_, ap, sym, _∙_}
 use mathlib.Core.Logic.{_↔_}
 use mathlib.Core.List.{List}
 use lib.ListN.{length, getD}
-use Rattle.base.specs.Rows.{at}
 use Rattle.table.specs.declared.Table.{Table}
 use Rattle.table.specs.declared.Task.{Task}
 use Rattle.table.specs.Table.{LegalTable}
 use Rattle.flat.specs.Flat.{countIn, tasksIn}
 use Rattle.lines.specs.Writes.{planText}
-use Rattle.told.specs.Told.{fields, toldAfter}
+use Rattle.told.specs.Told.{toldAfter}
+use Rattle.told_plans.specs.PlanNumbers.{writtenTold, changedTold}
 use Rattle.writer.specs.declared.Written.{Written}
-use Rattle.writer.specs.declared.Written.the-variants.{End}
 use Rattle.writer.specs.Written.{tableFrom, full, WroteAs}
 use Rattle.writer.specs.Ways.{TooFull}
 use Rattle.writer.proofs.Theorems as writer
 use Rattle.changer.specs.declared.Changed.{Changed}
-use Rattle.changer.specs.declared.Changed.the-variants.{End as Ends}
 use Rattle.changer.specs.Changed.{ChangedAs}
-use Rattle.wrote.specs.Wrote.{writtenTold, changedTold, Wrote, TasksWrote, PlanChanged}
+use Rattle.wrote.specs.Wrote.{Wrote, TasksWrote, PlanChanged}
 
 -- the list that is told is the one that is said
 said-wrote : (said after told list new told′ : List ℕ) → list ≡ said → new ≡ after
@@ -45,16 +42,6 @@ pub plan-changed : (text old : List ℕ) (start : ℕ) (told new told′ : List 
     → PlanChanged text old start told (getD list 2 0) new told′
 plan-changed text old start told new told′ c list h said answer =
     said-wrote _ _ told list new told′ (said ∙ ap changedTold (h .answer)) (h .bytes) answer
-
--- the two halves of an end place
-pub end-told : (end : ℕ) → at (writtenTold (End end)) 9 + 4294967296 * at (writtenTold (End end)) 10 ≡ end
-unfolding fields
-end-told end = omega arith
-
-pub changed-end-told : (end : ℕ)
-    → at (changedTold (Ends end)) 9 + 4294967296 * at (changedTold (Ends end)) 10 ≡ end
-unfolding fields
-changed-end-told end = omega arith
 
 -- 16 of an answer that the promise allows
 pub sixteen-exactly : (t : Table) (old : List ℕ) (start : ℕ) (r : Written) (new : List ℕ)

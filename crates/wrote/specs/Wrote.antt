@@ -1,8 +1,7 @@
--- The lent answer of a call that writes a plan: the numbers of `fields`, by what is answered.
+-- A call that writes a plan: the yes, every byte of the buffer and every number of the lent answer.
 --
---   yes            1 where the plan is written, 0 in a refusal
---   the end place  in the places 9 and 10, 0 in a refusal
---   passes         those of a forcing that refused; 0 where the plan is written
+--   a call whose answer is said     Wrote
+--   the promises of the calls       TasksWrote, PlanChanged
 --
 -- Assumes nothing.
 use Prim.Native.Nat.{ℕ}
@@ -12,21 +11,10 @@ use lib.ListN.{length}
 use Rattle.base.specs.Rows.{at}
 use Rattle.table.specs.declared.Table.{Table}
 use Rattle.flat.specs.Flat.{countIn, tasksIn}
-use Rattle.told.specs.Told.{fields, toldAfter}
+use Rattle.told.specs.Told.{toldAfter}
+use Rattle.told_plans.specs.PlanNumbers.{writtenTold, changedTold}
 use Rattle.writer.specs.Written.{writtenAnswer, bufferAfter, tableFrom}
-use Rattle.writer.specs.declared.Written.{Written}
-use Rattle.writer.specs.declared.Written.the-variants.{End, Refused}
 use Rattle.changer.specs.Changed.{changeBy, afterBy, changedTable, sentTable, forced}
-use Rattle.changer.specs.declared.Changed.{Changed}
-use Rattle.changer.specs.declared.Changed.the-variants.{End as Ends, Refused as Stopped}
-
-abbrev pub writtenTold : Written → List ℕ
-writtenTold (End e) = fields 0 0 1 0 0 0 e
-writtenTold (Refused why) = fields (why .number) (why .place) 0 0 0 0 0
-
-abbrev pub changedTold : Changed → List ℕ
-changedTold (Ends e) = fields 0 0 1 0 0 0 e
-changedTold (Stopped why passes) = fields (why .number) (why .place) 0 0 passes 0 0
 
 -- a call whose answer is said: in r the yes, in told′ the caller's numbers, in new the buffer afterwards
 pub record Wrote (said after told : List ℕ) (r : ℕ) (new told′ : List ℕ) : Type 0 where

@@ -22,7 +22,7 @@ loop-holds c = (omega arith, fill-start 1 _)
 
 loop-again : tie.Need-loop-again Inv-loop μ-loop
 loop-again c =
-    let a = c .before .before in
+    let a = c .before .before .before in
     (omega arith, fill-step 1 _ (omega (arith, a .before .pre)) (a .loop .inv .1) (c .as-flag .ensures))
 
 returns : tie.Need-returns Inv-loop μ-loop

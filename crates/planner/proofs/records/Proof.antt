@@ -24,11 +24,11 @@ loop-holds c = (omega arith, fill-start noRecord _)
 
 loop-again : tie.Need-loop-again Inv-loop μ-loop
 loop-again c =
-    let a = c .before .before .before .before in (
+    let a = c .before .before .before .before .before in (
       omega arith,
-      record-step (a .before .args .given) (a .before .args .flags) (a .before .args .t4)
-          (omega (arith, a .before .pre)) (a .loop .inv .1) (c .before .before .flag-at .ensures)
-          (c .before .flag-at2 .ensures) (c .change .ensures),
+      record-step (a .before .args .given) (a .before .args .flags) (a .before .args .bounds .now)
+          (omega (arith, a .before .pre)) (a .loop .inv .1) (c .before .before .before .flag-at .ensures)
+          (c .before .before .flag-at2 .ensures) (c .before .change .ensures),
     )
 
 returns : tie.Need-returns Inv-loop μ-loop

@@ -1,0 +1,3 @@
+pub mod CodedLaws
+pub mod CodeLaws
+pub mod Unique

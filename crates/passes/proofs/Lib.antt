@@ -1,0 +1,3 @@
+pub mod OnwardLaws
+pub mod PassLaws
+pub mod Unique

@@ -1,0 +1,106 @@
+-- The loops over tasks that search on, and that search the rest: at the start, after one task more, at the
+-- end.
+-- Assumes nothing.
+use Prim.Native.Nat.{ℕ, _+_, _-_, _≤_, _<_}
+use native.Mathlib.Omega.{arith}
+use mathlib.Core.Path.{_≡_, refl, sym, ap, _∙_, subst}
+use mathlib.Core.List.{List}
+use lib.ListN.{length, set, length-set}
+use lib.Seq.{getD-set-same, getD-set-other}
+use lib.Dec.{eqb}
+use borrow.Author.Tests.{eq-eqb, ne-eqb}
+use Rattle.base.specs.Rows.{at}
+use Rattle.base.proofs.OrderLaws.{below-none, below-next}
+use Rattle.base.proofs.FirstLaws.{NoneTo, find-start, find-step, find-here, find-none}
+use Rattle.model.specs.Bound.{System, bound}
+use Rattle.bound.specs.Ahead.{NoneSooner}
+use Rattle.passes.specs.Passes.{qOf, Floors, Onward, Preempted, Last}
+
+-- searching on: what is done of the first k tasks
+pub onward-start : {s : System} {fl : ℕ → ℕ} {xs : List ℕ} → Floors s fl xs → Onward s fl 0 xs xs
+onward-start {s} {fl} {xs} a = record {
+  size = a .size;
+  found = λ j lt. absurd (let z : ⊥ = omega arith in z);
+  kept = λ j le. refl;
+}
+
+module _ {s : System} {fl : ℕ → ℕ} {k : ℕ} {old xs : List ℕ} (a : Onward s fl k old xs) where
+  -- from where the next is searched
+  pub onward-from : {q c : ℕ} → Floors s fl old → k < s .count → (fl k ≡ 0 → ⊥) → c ≡ s .C k
+      → q ≡ qOf (at xs k) c → NoneSooner s fl k q
+  onward-from {q} {c} floors lt pre same e =
+      subst (NoneSooner s fl k)
+      (sym (e ∙ (ap (λ x. qOf x c) (a .kept k (omega arith)) ∙ ap (qOf (at old k)) same)))
+      (floors .floor k lt (omega arith))
+
+  pub onward-step : {v : ℕ} → k < 32 → v ≡ bound s fl k → Onward s fl (k + 1) old (set xs k v)
+  onward-step {v} small e = record {
+    size = length-set xs k v ∙ a .size;
+    found =
+        below-next (λ j. 0 < fl j → at (set xs k v) j ≡ bound s fl j) k
+        (λ j lt pre. getD-set-other xs k j v 0 (λ z. omega arith) ∙ a .found j lt pre)
+        (λ pre. getD-set-same xs k v 0 (omega (arith, a .size)) ∙ e);
+    kept = λ j le. getD-set-other xs k j v 0 (λ z. omega arith) ∙ a .kept j (omega arith);
+  }
+
+  pub onward-skip : fl k ≡ 0 → Onward s fl (k + 1) old xs
+  onward-skip non = record {
+    size = a .size;
+    found =
+        below-next (λ j. 0 < fl j → at xs j ≡ bound s fl j) k (a .found)
+        (λ pre. absurd (let z : ⊥ = omega arith in z));
+    kept = λ j le. a .kept j (omega arith);
+  }
+
+  pub onward-end : {end : ℕ} → k ≡ end → Onward s fl end old xs
+  onward-end e = subst (λ n. Onward s fl n old xs) e a
+
+-- the rest: what is known where the first k tasks have bounds
+pub record Resting (s : System) (fl : ℕ → ℕ) (xs : List ℕ) (k : ℕ) : Type 0 where
+  pub size : length xs ≡ 32
+  pub known : (j : ℕ) → j < k → at xs j ≡ bound s fl j
+  pub later : (j : ℕ) → k ≤ j → j < s .count → 0 < fl j → at xs j ≡ bound s fl j
+  pub none : NoneTo (λ j. eqb (bound s fl j) 0) k
+
+pub rest-start : {s : System} {fl : ℕ → ℕ} {xs : List ℕ} → Preempted s fl xs → Resting s fl xs 0
+rest-start {s} {fl} {xs} a = record {
+  size = a .size;
+  known = below-none (λ j. at xs j ≡ bound s fl j);
+  later = λ j le lt pre. a .known j lt pre;
+  none = find-start _;
+}
+
+module _ {s : System} {fl : ℕ → ℕ} {xs : List ℕ} {k : ℕ} (a : Resting s fl xs k) where
+  pub rest-found : {v : ℕ} → k < 32 → v ≡ bound s fl k → (v ≡ 0 → ⊥) → Resting s fl (set xs k v) (k + 1)
+  rest-found {v} small e some = record {
+    size = length-set xs k v ∙ a .size;
+    known =
+        below-next (λ j. at (set xs k v) j ≡ bound s fl j) k
+        (λ j lt. getD-set-other xs k j v 0 (λ z. omega arith) ∙ a .known j lt)
+        (getD-set-same xs k v 0 (omega (arith, a .size)) ∙ e);
+    later =
+        λ j le lt pre. getD-set-other xs k j v 0 (λ z. omega arith) ∙ a .later j (omega arith) lt pre;
+    none = find-step _ (a .none) (ne-eqb _ 0 (λ z. some (e ∙ z)));
+  }
+
+  pub rest-skip : {old : List ℕ} → Preempted s fl old → k < s .count → (fl k ≡ 0 → ⊥)
+      → Resting s fl xs (k + 1)
+  rest-skip p lt pre = record {
+    size = a .size;
+    known =
+        below-next (λ j. at xs j ≡ bound s fl j) k (a .known) (a .later k (omega arith) lt (omega arith));
+    later = λ j le less some. a .later j (omega arith) less some;
+    none = find-step _ (a .none) (ne-eqb (bound s fl k) 0 (λ z. omega (arith, p .some k lt (omega arith))));
+  }
+
+  pub rest-here : {r v : ℕ} → r ≡ k + 1 → k < s .count → v ≡ bound s fl k → v ≡ 0 → Last s fl xs r
+  rest-here {r} is lt e none = record {
+    lowest = is ∙ find-here _ (a .none) lt (eq-eqb _ 0 (sym e ∙ none));
+    each = λ z. absurd (let y : ⊥ = omega arith in y);
+  }
+
+  pub rest-end : k ≤ s .count → s .count ≤ k → Last s fl xs 0
+  rest-end low high = record {
+    lowest = find-none _ (a .none) high;
+    each = λ z j lt. a .known j (omega arith);
+  }

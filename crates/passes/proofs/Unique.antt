@@ -1,0 +1,25 @@
+-- Any two rows and results that the promises of this crate allow are equal, as far as they say anything.
+-- Assumes nothing.
+use Prim.Native.Nat.{ℕ, _<_}
+use mathlib.Core.Path.{_≡_}
+use mathlib.Core.List.{List}
+use Rattle.base.specs.Rows.{at, row}
+use Rattle.base.proofs.Unique.{only}
+use Rattle.model.specs.Bound.{System, bound}
+use Rattle.passes.specs.Passes.{Onward, Last}
+
+pub test-rows-only : (s : System) (fl : ℕ → ℕ) (n : ℕ) {xs ys : List ℕ} → xs ≡ row 0 (bound s fl) n
+    → ys ≡ row 0 (bound s fl) n → xs ≡ ys
+test-rows-only s fl n p q = only p q
+
+module _ {s : System} {fl : ℕ → ℕ} where
+  pub search-on-only : {end : ℕ} {old xs ys : List ℕ} → Onward s fl end old xs → Onward s fl end old ys
+      → (k : ℕ) → k < end → 0 < fl k → at xs k ≡ at ys k
+  search-on-only a b k lt pre = only (a .found k lt pre) (b .found k lt pre)
+
+  pub search-rest-only : {xs ys : List ℕ} {r r′ : ℕ} → Last s fl xs r → Last s fl ys r′
+      → (r ≡ r′) × (r ≡ 0 → r′ ≡ 0 → (k : ℕ) → k < s .count → at xs k ≡ at ys k)
+  search-rest-only a b = (
+    only (a .lowest) (b .lowest),
+    λ z z′ k lt. only (a .each z k lt) (b .each z′ k lt),
+  )

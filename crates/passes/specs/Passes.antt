@@ -1,0 +1,44 @@
+-- What forcing knows of a row of bounds, before and after a pass, and at its end.
+--
+--   document 01, Algorithm 2                               here
+--   the q of a bound: b - C + 1, and 0 for none            qOf b c
+--   before a pass: for no preemptive task is a q below     Floors s fl bounds
+--   that of its place enough
+--   after it: the bound of each preemptive task before     Onward s fl end before after
+--   `end`, the others as they were
+--   all preemptive tasks have bounds                       Preempted s fl bounds
+--   the lowest task without a bound, 0 for none; then      Last s fl bounds r
+--   each task has its own
+--
+-- Assumes nothing.
+use Prim.Native.Nat.{ℕ, _-_, _≤_, _<_}
+use mathlib.Core.Path.{_≡_}
+use mathlib.Core.List.{List}
+use lib.ListN.{length}
+use lib.Dec.{eqb, ltb}
+use Rattle.base.specs.Choice.{pick}
+use Rattle.base.specs.Least.{firstOf}
+use Rattle.base.specs.Rows.{at}
+use Rattle.model.specs.Bound.{System, bound}
+use Rattle.bound.specs.Ahead.{NoneSooner}
+
+unfoldable pub qOf : ℕ → ℕ → ℕ
+qOf b c = pick (ltb b c) 0 (b - (c - 1))
+
+pub record Floors (s : System) (fl : ℕ → ℕ) (bounds : List ℕ) : Type 0 where
+  pub size : length bounds ≡ 32
+  pub floor : (k : ℕ) → k < s .count → 0 < fl k → NoneSooner s fl k (qOf (at bounds k) (s .C k))
+
+pub record Onward (s : System) (fl : ℕ → ℕ) (end : ℕ) (before after : List ℕ) : Type 0 where
+  pub size : length after ≡ 32
+  pub found : (k : ℕ) → k < end → 0 < fl k → at after k ≡ bound s fl k
+  pub kept : (k : ℕ) → end ≤ k → at after k ≡ at before k
+
+pub record Preempted (s : System) (fl : ℕ → ℕ) (bounds : List ℕ) : Type 0 where
+  pub size : length bounds ≡ 32
+  pub known : (k : ℕ) → k < s .count → 0 < fl k → at bounds k ≡ bound s fl k
+  pub some : (k : ℕ) → k < s .count → 0 < fl k → 0 < bound s fl k
+
+pub record Last (s : System) (fl : ℕ → ℕ) (bounds : List ℕ) (r : ℕ) : Type 0 where
+  pub lowest : r ≡ firstOf (λ k. eqb (bound s fl k) 0) (s .count)
+  pub each : r ≡ 0 → (k : ℕ) → k < s .count → at bounds k ≡ bound s fl k

@@ -1,0 +1,102 @@
+// Searches of many tasks over the rows of a table, each into a lent row of bounds: the test of all; one pass
+// of forcing, over preemptive tasks; and, where forcing ends, the non-preemptive tasks.
+ghost use mathlib.Core.Path.{_≡_};
+ghost use Prim.Native.Nat.{_≤_};
+ghost use lib.ListN.{replicate};
+ghost use Rattle.base.specs.Rows.{row};
+ghost use Rattle.model.specs.Bound.{bound};
+ghost use Rattle.flags.specs.Flags.{flagIn};
+ghost use Rattle.rows.specs.Held.{systemIn, LegalRows};
+ghost use Rattle.passes.specs.Passes.{qOf, Floors, Onward, Preempted, Last};
+use flags::Flags;
+use rows::Head;
+
+// The test: the bound of each task under these flags.
+pub fn test_rows<'a>(
+    head: Head,
+    inverse: &'a [u64; 32],
+    rest: &'a [u32; 32],
+    cost: &'a [u32; 32],
+    reach: &'a [u32; 32],
+    flags: Flags,
+    bounds: &'a mut [u32; 32],
+)
+    requires { ⌜ (LegalRows head (now inverse) (now rest) (now cost) (now reach))
+        × (now bounds ≡ replicate 32 0) ⌝ }
+    ensures { λ _. ⌜ now (bounds .exit) ≡ row 0 (bound (systemIn head (now (rest .entry))
+        (now (cost .entry)) (now (reach .entry))) (flagIn flags)) (head .n) ⌝ }
+{
+    let n = head.n;
+    let mut k: usize = 0;
+    while k < n {
+        bounds[k] = bound::bound_of(head, inverse, rest, cost, reach, flags, k, 0);
+        k += 1;
+    }
+}
+
+// The q of a bound, and 0 for none.
+fn q_of(bound: u32, cost: u32) -> u32
+    requires { ⌜ 1 ≤ cost ⌝ }
+    ensures { λ r. ⌜ r ≡ qOf bound cost ⌝ }
+{
+    if bound < cost { 0 } else { bound - (cost - 1) }
+}
+
+// One pass: each preemptive task of the first `end` is searched on from where it stands.
+pub fn search_on<'a>(
+    head: Head,
+    inverse: &'a [u64; 32],
+    rest: &'a [u32; 32],
+    cost: &'a [u32; 32],
+    reach: &'a [u32; 32],
+    flags: Flags,
+    end: usize,
+    bounds: &'a mut [u32; 32],
+)
+    requires { ⌜ (LegalRows head (now inverse) (now rest) (now cost) (now reach)) × (end ≤ head .n)
+        × (Floors (systemIn head (now rest) (now cost) (now reach)) (flagIn flags) (now bounds)) ⌝ }
+    ensures { λ _. ⌜ Onward (systemIn head (now (rest .entry)) (now (cost .entry)) (now (reach .entry)))
+        (flagIn flags) end (now (bounds .entry)) (now (bounds .exit)) ⌝ }
+{
+    let mut k: usize = 0;
+    while k < end {
+        if flags::flag_at(flags, k) != 0 {
+            let from = q_of(bounds[k], cost[k]);
+            bounds[k] = bound::bound_of(head, inverse, rest, cost, reach, flags, k, from);
+        }
+        k += 1;
+    }
+}
+
+// Where each preemptive task has its bound: the others, up to the first that has none. The number of that
+// task, and 0 where each task has its bound in the row.
+pub fn search_rest<'a>(
+    head: Head,
+    inverse: &'a [u64; 32],
+    rest: &'a [u32; 32],
+    cost: &'a [u32; 32],
+    reach: &'a [u32; 32],
+    flags: Flags,
+    bounds: &'a mut [u32; 32],
+) -> u32
+    requires { ⌜ (LegalRows head (now inverse) (now rest) (now cost) (now reach))
+        × (Preempted (systemIn head (now rest) (now cost) (now reach)) (flagIn flags) (now bounds)) ⌝ }
+    ensures { λ r. ⌜ Last (systemIn head (now (rest .entry)) (now (cost .entry)) (now (reach .entry)))
+        (flagIn flags) (now (bounds .exit)) r ⌝ }
+{
+    let n = head.n;
+    let mut k: usize = 0;
+    let mut place: u32 = 0;
+    while k < n {
+        place += 1;
+        if flags::flag_at(flags, k) == 0 {
+            let found = bound::bound_of(head, inverse, rest, cost, reach, flags, k, 0);
+            if found == 0 {
+                return place;
+            }
+            bounds[k] = found;
+        }
+        k += 1;
+    }
+    0
+}
