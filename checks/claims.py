@@ -14,7 +14,8 @@ import sys
 
 ROOT = pathlib.Path(__file__).resolve().parent.parent
 PAPER = ROOT / "docs" / "CLAIMS.md"
-FRONTS = [ROOT / "crates" / crate / "proofs" / "FrontPage.antt" for crate in ("claims", "claims_writing")]
+FRONT_CRATES = ("claims", "claims_writing", "claims_rounds")
+FRONTS = [ROOT / "crates" / crate / "proofs" / "FrontPage.antt" for crate in FRONT_CRATES]
 FOLDERS = "docs|crates|checks|examples|corpus|second|rust|bench|include|tools"
 LINK = re.compile(r"\[`([^`]+)`\]\(\.\./([\w/.+-]+)#L(\d+)\)")
 NAMES_IN_SPECS = re.compile(r"^use Rattle·(\w+?)(?:·specs)?\.specs\.(?:specs\.)?((?:declared\.)?\w+)", re.M)

@@ -15,7 +15,7 @@
  * - Of the C library it needs memcpy and memset, and nothing else.
  * - It touches no memory but the lists that it is lent and its stack, of which it takes less than 8 KB.
  * - It always returns, but its time has no smaller limit than that. Most tables take less than a millisecond,
- *   the slowest tables known seconds (docs/BENCHMARK.md): not for a loop with a deadline of its own.
+ *   the slowest tables known most of a second (docs/BENCHMARK.md): not for a loop with a deadline of its own.
  * - It uses the SSE2 registers and the red zone below the stack pointer: not for interrupt handlers, nor for
  *   kernel code, which is built without them.
  * - Lists that are lent in one call do not overlap. A list of length 0 may be NULL. Tasks, records and

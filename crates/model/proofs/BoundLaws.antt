@@ -100,6 +100,14 @@ bound-same s fl fl′ k pos lt same =
     (bound-order s (s .S) (s .S) fl′ fl k pos (λ i _. le-refl _) (λ i h. le-of-eq (sym (same i h)))
     (sym (same k lt)))
 
+-- And only the slacks of these places.
+pub bound-slacks : (s : System) (S S′ fl : ℕ → ℕ) (k : ℕ) → 0 < s .C k
+    → ((i : ℕ) → i < s .count → S′ i ≡ S i) → bound (under s S) fl k ≡ bound (under s S′) fl k
+bound-slacks s S S′ fl k pos same =
+    no-worse-both _ _
+    (bound-order s S S′ fl fl k pos (λ i h. le-of-eq (same i h)) (λ i _. le-refl _) refl)
+    (bound-order s S′ S fl fl k pos (λ i h. le-of-eq (sym (same i h))) (λ i _. le-refl _) refl)
+
 -- A bound is at least C and at most D.
 plus-range : (a r c d : ℕ) → (0 < r → (c ≤ r + a) × (r + a ≤ d))
     → (0 < plus a r → c ≤ plus a r) × (plus a r ≤ d)

@@ -7,6 +7,7 @@ pub mod PlaceLaws
 pub mod ReorderLaws
 pub mod EasierLaws
 pub mod DifferenceLaws
+pub mod SlackLaws
 pub mod ForcingLaws
 pub mod PassLaws
 pub mod LowestLaws

@@ -13,6 +13,10 @@ use Rattle.model.specs.Forcing.{Final}
 abbrev pub Timed : System → Type 0
 Timed s = (k : ℕ) → k < s .count → 0 < s .C k
 
+-- edition 1: no task has slack
+abbrev pub Slackless : System → Type 0
+Slackless s = (k : ℕ) → k < s .count → s .S k ≡ 0
+
 -- each flag is 0 or 1
 abbrev pub Flags : System → (ℕ → ℕ) → Type 0
 Flags s fl = (i : ℕ) → i < s .count → fl i ≤ 1

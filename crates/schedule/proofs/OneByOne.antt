@@ -13,11 +13,12 @@ use borrow.Author.Tests.{ltb-true}
 use Rattle.base.specs.Sums.{sumTo}
 use Rattle.base.specs.Choice.{pick}
 use Rattle.model.specs.Bound.{Policy, EDF, FP, System, W, E, shareOf, B}
+use Rattle.model.specs.Demands.{Slackless}
 use Rattle.base.proofs.SumLaws.{sum-part}
 use Rattle.base.proofs.OrderLaws.{le-or-lt}
 use Rattle.model.proofs.TermLaws.{E-least}
 use Rattle.schedule.specs.Schedule.{Run, done, lower}
-use Rattle.schedule.specs.Promise.{Bounded, Slackless}
+use Rattle.schedule.specs.Promise.{Bounded}
 use Rattle.schedule.specs.OneByOne.{FollowsOneByOne, SoundOneByOneEDF, SoundOneByOneFP}
 use Rattle.schedule.proofs.Counts.{zero-unless, eq-or, some-place}
 use Rattle.schedule.proofs.Facts.{

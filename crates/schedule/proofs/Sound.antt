@@ -7,14 +7,14 @@ use native.Mathlib.Omega.{arith}
 use mathlib.Core.Path.{_≡_, sym, ap, _∙_}
 use mathlib.Core.Logic.{inl}
 use Rattle.model.specs.Bound.{System, Legal, bound}
-use Rattle.model.specs.Demands.{Passes}
+use Rattle.model.specs.Demands.{Slackless, Passes}
 use Rattle.base.specs.Rows.{at}
 use Rattle.model.specs.Forcing.{force}
 use Rattle.model.proofs.ForcingLaws.{run-bounds, test-at}
 use Rattle.model.proofs.BoundLaws.{bound-range}
 use Rattle.model.proofs.LowestLaws.{lowest-none}
 use Rattle.schedule.specs.Schedule.{Run, done, Follows}
-use Rattle.schedule.specs.Promise.{Bounded, Slackless, Kept, Sound, SoundPassing, SoundForced}
+use Rattle.schedule.specs.Promise.{Bounded, Kept, Sound, SoundPassing, SoundForced}
 use Rattle.schedule.proofs.Counts.{zero-unless}
 use Rattle.schedule.proofs.Facts.{Fit, Base}
 use Rattle.schedule.proofs.Waiting.{waits}

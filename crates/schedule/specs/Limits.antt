@@ -12,8 +12,9 @@ use Prim.Native.Nat.{ℕ, _+_, _≤_, _<_}
 use mathlib.Core.Path.{_≡_}
 use mathlib.Core.Bool.{Bool, true, false}
 use Rattle.model.specs.Bound.{Policy, FP, System, Legal, bound}
+use Rattle.model.specs.Demands.{Slackless}
 use Rattle.schedule.specs.Schedule.{Run, Follows}
-use Rattle.schedule.specs.Promise.{Slackless, Kept}
+use Rattle.schedule.specs.Promise.{Kept}
 
 -- A claim that is false, under either policy.
 abbrev pub Alone : Policy → Type 0

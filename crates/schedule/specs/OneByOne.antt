@@ -15,9 +15,9 @@ use mathlib.Core.Path.{_≡_}
 use mathlib.Core.Logic.{_⊎_}
 use mathlib.Core.Bool.{true}
 use Rattle.model.specs.Bound.{EDF, FP, System, Legal, bound}
-use Rattle.model.specs.Demands.{Passes}
+use Rattle.model.specs.Demands.{Slackless, Passes}
 use Rattle.schedule.specs.Schedule.{Run, done, Waits, lower, Basic}
-use Rattle.schedule.specs.Promise.{Bounded, Slackless, Kept}
+use Rattle.schedule.specs.Promise.{Bounded, Kept}
 
 pub record FollowsOneByOne (s : System) (fl : ℕ → ℕ) (x : Run) : Type 0 where
   pub basic : Basic s fl x

@@ -16,7 +16,7 @@ use mathlib.Core.Path.{_≡_}
 use mathlib.Core.List.{List}
 use mathlib.Core.Bool.{false}
 use Rattle.model.specs.Bound.{System, Legal, bound}
-use Rattle.model.specs.Demands.{Passes}
+use Rattle.model.specs.Demands.{Slackless, Passes}
 use Rattle.base.specs.Rows.{at}
 use Rattle.model.specs.Forcing.{lowest, force}
 use Rattle.schedule.specs.Schedule.{Run, done, Follows}
@@ -40,15 +40,11 @@ pub record Bounded (s : System) (fl : ℕ → ℕ) : Type 0 where
   pub some : (k : ℕ) → k < s .count → 0 < bound s fl k
   pub fits : (k : ℕ) → k < s .count → bound s fl k + s .S k ≤ s .D k
 
--- Edition 1: no task has slack. Then every bound fits, since a bound is at most D.
-abbrev pub Slackless : System → Type 0
-Slackless s = (k : ℕ) → k < s .count → s .S k ≡ 0
-
 -- The theorem, for every legal table, flags and policy, any slacks under which the bounds fit, any `higher`.
 abbrev pub Sound : Type 0
 Sound = (s : System) (fl : ℕ → ℕ) → Legal s → Bounded s fl → Promise s fl (bound s fl)
 
--- Edition 1: where the test says yes.
+-- Edition 1: where the test says yes. Without slack every bound fits, since a bound is at most D.
 abbrev pub SoundPassing : Type 0
 SoundPassing = (s : System) (fl : ℕ → ℕ) → Legal s → Slackless s → Passes s fl → Promise s fl (bound s fl)
 

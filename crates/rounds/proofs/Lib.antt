@@ -1,0 +1,16 @@
+pub mod RoundLaws
+pub mod TestLaws
+pub mod SaidLaws
+pub mod SameLaws
+pub mod LoopLaws
+pub mod PlaceLaws
+pub mod ForcingLaws
+pub mod CarryLaws
+pub mod ChangeLaws
+pub mod ForcedLaws
+pub mod PassLaws
+pub mod ReadLaws
+pub mod WayLaws
+pub mod FewLaws
+pub mod Cases
+pub mod Refuted
