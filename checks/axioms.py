@@ -4,7 +4,8 @@
 A library crate of this repository assumes nothing: it names no library of the kit whose contracts are
 assumed (crates.txt), and where its check was made in this checkout, the last line of that check has no axiom.
 A program assumes the contracts of the C functions that it calls. Prints a line for each crate, and exits with
-1 where a library crate assumes something or a check that was made did not prove its crate.
+1 where a library crate assumes something, a check that was made did not prove its crate, or docs/TRUST.md has
+no row, or another figure, for a crate.
 """
 import pathlib
 import re
@@ -32,8 +33,14 @@ def last_line(name):
     return ""
 
 
+def told():
+    """(functions, axioms) of each crate in the table of docs/TRUST.md."""
+    text = (ROOT / "docs" / "TRUST.md").read_text(encoding="utf-8")
+    return {row[0]: row[1:] for row in re.findall(r"^\| (\w+) \| (\d+) \| (axioms=\d+) \|$", text, re.M)}
+
+
 def main():
-    wrong = 0
+    wrong, rows = 0, told()
     for name, below in crates():
         last = last_line(name)
         axioms = re.findall(r"\b(?:axioms|foreign)=\S+", last)
@@ -43,6 +50,11 @@ def main():
         if functions:
             found = f"{functions.group(1)} functions, {' '.join(axioms) or 'axioms=0'}"
         print(f"{name}: {'program' if program else 'library'}, {found}")
+        shown = (functions.group(1), axioms[0] if axioms else "axioms=0") if functions else rows.get(name, ())
+        if rows.get(name, ()) != shown or not shown:
+            wrong += 1
+            row = " ".join(rows.get(name, ("no row",)))
+            print(f"{name}: docs/TRUST.md has {row}, the check {' '.join(shown)}")
         if last and not last.startswith("logic=proved"):
             wrong += 1
             print(f"{name}: not proved: {last}")

@@ -19,17 +19,18 @@ pub fn listing_of_table(table: &Table, bound_of: BoundOf) -> String {
     }
 }
 
-/// The passes follow for 14 alone.
+/// The passes follow for 14 and, in the second edition, for 15.
 pub fn refusal_line(refusal: &Refusal) -> String {
     let Refusal { number, place, passes } = refusal;
-    if *number == 14 {
-        format!("refused 14 place {place} passes {passes}\n")
+    if *number == 14 || *number == 15 {
+        format!("refused {number} place {place} passes {passes}\n")
     } else {
         format!("refused {number} place {place}\n")
     }
 }
 
-fn accepted(table: &Table, answer: &Forced) -> String {
+/// The lines of an accepted plan.
+pub fn accepted(table: &Table, answer: &Forced) -> String {
     let policy = if table.policy == EDF { "EDF" } else { "FP" };
     let mut text = format!("plan {policy} cores {} tasks {}\n", table.cores, table.tasks.len());
     let mut total = 0;

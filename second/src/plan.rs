@@ -34,7 +34,7 @@ impl Table {
     }
 }
 
-/// A numbered refusal. `passes` is 0 except under 14.
+/// A numbered refusal. `passes` is 0 except under 14 and 15.
 #[derive(Clone, Copy, Debug, PartialEq, Eq)]
 pub struct Refusal {
     pub number: u32,
