@@ -1,8 +1,8 @@
 /* stack.c: how much stack one call of the archive takes. A thread runs the call on a stack that was filled
  * with a pattern; what the call overwrote is counted, less what a thread that does nothing overwrites.
  *
- * The plan is read from the standard input. `stack` prints the bytes of a test, of forcing, and of forcing
- * with an answer of its own; `stack write` those of the two calls that write a plan: the plan's tasks, and
+ * The plan is read from the standard input. `stack` prints the bytes of a test, of forcing, of forcing with
+ * an answer of its own, and of that under edition 2; `stack write` those of the two calls that write a plan: the plan's tasks, and
  * the plan as changed by forcing. Link it with -z now: otherwise the first call of memcpy, which the system
  * looks up then, counts with some kilobytes. */
 #include <pthread.h>
@@ -39,6 +39,12 @@ static void *force(void *job) {
 static void *force_answer(void *job) {
     eskihrum_flat_force_plan(text, length, records, sizeof records / sizeof *records, answer,
                              sizeof answer / sizeof *answer);
+    return job;
+}
+
+static void *force_second(void *job) {
+    eskihrum_flat_force_plan_2(text, length, records, sizeof records / sizeof *records, answer,
+                               sizeof answer / sizeof *answer);
     return job;
 }
 
@@ -90,8 +96,8 @@ int main(int count, char **words) {
     if (count == 2 && strcmp(words[1], "write") == 0) {
         printf("tasks %zu changed %zu\n", used(write_tasks) - empty, used(write_changed) - empty);
     } else {
-        printf("test %zu force %zu answer %zu\n", used(test) - empty, used(force) - empty,
-               used(force_answer) - empty);
+        printf("test %zu force %zu answer %zu edition 2 %zu\n", used(test) - empty, used(force) - empty,
+               used(force_answer) - empty, used(force_second) - empty);
     }
     return 0;
 }

@@ -4,7 +4,7 @@
 # thousand calls by each of five ways.
 set -eu
 cd -- "$(dirname -- "$0")/.."
-rt staticlib eskihrum >target/staticlib.log 2>&1 || { tail -n 20 target/staticlib.log; exit 1; }
+tools/build.sh archive || exit 1
 python3 checks/border.py --archive
 checks/promises.sh
 
@@ -31,6 +31,11 @@ example tasks
 told 0 "as given: no
 task 1: N, bound 12
 task 2: N, bound 17" target/tasks
+example second
+told 0 "edition 1: refused 14 place 2 passes 4 rounds 0
+edition 2: accepted, 0 forced in 1 passes, 3 rounds
+edition 2: refused 15 place 1 passes 2 rounds 0
+$(sed -n 's/^| 15 | \([^|]*\) | .*/\1/p' docs/REFUSALS.md)" target/second
 example writer
 told 0 "01010102FB
 02000000000C000000040000000CE2
@@ -38,6 +43,7 @@ told 0 "01010102FB
 told 2 "refused 16 place 0" target/writer 72
 told 0 "$(target/writer)" target/writer 73
 
-export CARGO_TARGET_DIR="$PWD/target/cargo"
+# with the second program as its own tests have built it
+export CARGO_TARGET_DIR="$PWD/second/target"
 (cd rust && cargo test --offline --quiet -- --nocapture)
 (cd rust/header && cargo test --offline --quiet -- --nocapture)

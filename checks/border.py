@@ -16,6 +16,11 @@ import sys
 ROOT = pathlib.Path(__file__).resolve().parent.parent
 SOURCE = ROOT / "crates" / "eskihrum" / "src"
 TOLD = ROOT / "crates" / "told" / "specs" / "Told.antt"
+# A definition that puts one number more into a place of such an answer: `set (toldOf ..) PLACE (.. .NAME)`.
+ADDED = [
+    ROOT / "crates" / "edition_jobs" / "specs" / "Jobs.antt",
+    ROOT / "crates" / "fewest_jobs" / "specs" / "FewestTold.antt",
+]
 ABI = ROOT / "crates" / "eskihrum" / "specs" / "Abi.antt"
 HEADER = ROOT / "include" / "eskihrum.h"
 FLAT = ROOT / "rust" / "src" / "flat.rs"
@@ -116,6 +121,10 @@ def fields():
     told = re.search(r"^fields [\w ]+ =\n(.*?)\n\n", TOLD.read_text(encoding="utf-8"), re.M | re.S).group(1)
     entries = enumerate(re.split(r"\s*∷\s*", told.strip()))
     order = {FIELD[entry]: place for place, entry in entries if entry in FIELD}
+    for path in ADDED:
+        text = path.read_text(encoding="utf-8")
+        more = re.findall(r"= set \(toldOf .*\) (\d+) \(\w+ \.(\w+)\)$", text, re.M)
+        order |= {name: int(place) for place, name in more}
     body = re.search(r"typedef struct eskihrum_answer \{(.*?)\}", header, re.S).group(1)
     in_c, place = {}, 0
     for name, many in re.findall(r"uint32_t (\w+)(?:\[(\d+)\])?;", body):

@@ -14,7 +14,7 @@ import sys
 
 ROOT = pathlib.Path(__file__).resolve().parent.parent
 PAPER = ROOT / "docs" / "CLAIMS.md"
-FRONT_CRATES = ("claims", "claims_writing", "claims_rounds")
+FRONT_CRATES = ("claims", "claims_writing", "claims_rounds", "claims_cores")
 FRONTS = [ROOT / "crates" / crate / "proofs" / "FrontPage.antt" for crate in FRONT_CRATES]
 FOLDERS = "docs|crates|checks|examples|corpus|second|rust|bench|include|tools"
 LINK = re.compile(r"\[`([^`]+)`\]\(\.\./([\w/.+-]+)#L(\d+)\)")
@@ -150,7 +150,7 @@ def functions():
         if "Promise" in row:
             promised |= set(names)
         for name in names if "Edit" in row else []:
-            wrong[name] = len(re.findall(r"`[a-z_]+/[a-z0-9_]+`", row["Edit"]))
+            wrong[name] = len(re.findall(r"`[a-z0-9_]+/[a-z0-9_]+`", row["Edit"]))
     for source in sorted((ROOT / "crates").glob("*/src/lib.rt")):
         crate = source.parts[-3]
         base = ROOT / "crates" / crate
@@ -166,7 +166,7 @@ def functions():
 
 def edits():
     """Must-fail edits, written CRATE/LABEL in backquotes."""
-    for crate, label in re.findall(r"`([a-z_]+)/([a-z0-9_]+)`", PAPER.read_text(encoding="utf-8")):
+    for crate, label in re.findall(r"`([a-z0-9_]+)/([a-z0-9_]+)`", PAPER.read_text(encoding="utf-8")):
         if not (ROOT / "crates" / crate / "must-fail" / f"{label}.edit").is_file():
             yield f"docs/CLAIMS.md: there is no edit {crate}/{label}"
 

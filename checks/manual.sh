@@ -42,7 +42,7 @@ offers() { # WANTED WORD..: the last word is the one that is begun
 offers "chart " ./plan char
 offers "explain " ./plan exp
 offers "examples/b.listing examples/b.plan " ./plan chart examples/b.
-offers "--help --version " ./plan --
+offers "--edition --help --version " ./plan --
 offers "-o " ./plan chart -o
 offers " " ./plan explain e
 offers "examples/b.plan " ./plan -o x examples/b.p

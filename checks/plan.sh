@@ -9,7 +9,8 @@ room=$(mktemp -d) || exit 1
 trap 'rm -rf "$room"' EXIT
 out=$room/out err=$room/err count=0
 b=examples/b.plan d=examples/d.plan nine=corpus/bad/09-period-zero.plan most=corpus/good/most-tasks.plan
-export b d nine most room plan words
+small=corpus/good/lower-case.plan
+export b d nine most small room plan words
 
 fail() {
     printf 'plan.sh: %s\n' "$*"
@@ -180,13 +181,24 @@ sh_gives 0 'ln -s a "$room/link"; echo >"$room/a"; ./plan $b -o "$room/link" && 
 cmp -s "$room/a" examples/b.listing || fail "-o through a symbolic link: not the listing"
 [ -z "$(find "$room" -name '.plan.*')" ] || fail "-o left a draft behind"
 
-# ---- test, apply, show, make: the desk program's verbs.
+# ---- test, cores, apply, show, make: the desk program's verbs.
 gives 1 ./plan test $b
 wrote 'plan FP cores 1 tasks 2
 task 1 P bound 4 deadline 12 load 334
 task 2 P none deadline 18 load 375
 total load 709 answer no'
 said ''
+gives 0 ./plan cores $b
+wrote "fewest 1
+$(cat examples/b.listing)"
+said ''
+gives 0 ./plan cores examples/g.plan
+wrote 'fewest 2
+plan FP cores 2 tasks 3
+task 1 P given bound 4 deadline 10 load 400
+task 2 P given bound 4 deadline 10 load 400
+task 3 P given bound 20 deadline 20 load 400
+total load 1200 forced 0 passes 1'
 gives 0 ./plan apply $b -o "$room/release.plan"
 gives 0 ./plan test "$room/release.plan"
 [ "$(tail -n 1 "$out")" = 'total load 709 answer yes' ] || fail "the plan as changed does not pass its test"
@@ -200,7 +212,11 @@ task 12 4 12 P
 task 24 9 18 P'
 sh_gives 0 './plan show $b | ./plan make | cmp - $b'
 wrote ''
-for words in test apply show; do
+sh_gives 0 './plan show examples/j.plan | sed "s/^cores .*/cores 16/" | ./plan make -o "$room/16"'
+sh_gives 0 './plan cores "$room/16" | head -n 2'
+wrote 'fewest 2
+plan FP cores 2 tasks 3'
+for words in test cores apply show; do
     gives 2 ./plan $words $nine
     wrote 'refused 9 place 3'
     said "$told_9"
@@ -211,6 +227,75 @@ said "$told_14"
 echo before >"$room/kept"
 gives 1 ./plan apply $d -o "$room/kept"
 [ "$(cat "$room/kept")" = before ] || fail "apply -o: the file was touched by a refusal"
+
+# ---- Edition 2: sums of document 02, worked out apart from the programs. checks/editions.sh has more plans.
+gives 0 ./plan --edition 2 $b
+wrote 'plan FP cores 1 tasks 2
+task 1 P given bound 4 deadline 12 load 334
+task 2 P given bound 17 deadline 18 load 375
+total load 709 forced 0 passes 1 rounds 3'
+said ''
+gives 0 ./plan test $b --edition 2
+wrote 'plan FP cores 1 tasks 2
+task 1 P bound 4 deadline 12 load 334
+task 2 P bound 17 deadline 18 load 375
+total load 709 answer yes rounds 3'
+gives 0 ./plan apply --edition 2 $b
+cmp -s "$out" $b || fail "the plan as changed under edition 2: not the plan as sent, which passes"
+gives 0 ./plan --edition 1 $b
+holds examples/b.listing
+printf 'policy FP\ncores 1\ntask 2 1 2 P\ntask 5 1 5 N\ntask 9 2 9 P\n' >"$room/15.table"
+gives 0 ./plan make "$room/15.table" -o "$room/15"
+for words in '' apply; do
+    # shellcheck disable=SC2086 # no word, or one
+    gives 1 ./plan $words --edition 2 "$room/15"
+    wrote 'refused 15 place 3 passes 3'
+    says_part 'plan: task 3: forcing under the second edition has ended'
+done
+gives 1 ./plan test --edition 2 "$room/15"
+wrote 'plan FP cores 1 tasks 3
+task 1 P bound 2 deadline 2 load 500
+task 2 N bound 3 deadline 5 load 200
+task 3 P none deadline 9 load 223
+total load 923 answer no rounds 2'
+gives 2 ./plan --edition 2 $nine
+wrote 'refused 9 place 3'
+said "$told_9"
+for edition in 0 3 02 '' -o; do
+    gives 3 ./plan --edition "$edition" $b
+    said 'plan: --edition takes 1 or 2 [plan --help]'
+done
+gives 3 ./plan --edition
+said 'plan: --edition takes 1 or 2 [plan --help]'
+gives 3 ./plan --edition 2 --edition 2 $b
+said 'plan: --edition was given twice [plan --help]'
+for words in chart cores show make explain; do
+    gives 3 ./plan $words --edition 2 9
+    said "plan: $words has edition 1 only [plan --help]"
+done
+
+# ---- Letters in either case: every verb reads them and answers alike, and what is written is upper case.
+sed 's/FB$/fB/; s/0C0/0c0/; s/CA$/cA/' $b >"$room/mixed"
+for words in '' test cores apply show '--edition 2' 'test --edition 2' 'apply --edition 2'; do
+    if [ "$words" = test ]; then status=1; else status=0; fi
+    sh_gives $status './plan $words $b'
+    cp "$out" "$room/upper"
+    for plan in $small "$room/mixed"; do
+        sh_gives $status './plan $words "$plan"'
+        holds "$room/upper"
+        said ''
+    done
+done
+sh_gives 0 './plan chart $b | grep -vF -e sha256 -e $b'
+cp "$out" "$room/upper"
+sh_gives 0 './plan chart $small | grep -vF -e sha256 -e $small'
+holds "$room/upper"
+sh_gives 1 './plan apply corpus/good/mixed-case.plan | grep -q "[a-f]"'
+sh_gives 2 'sed "s/ca\$/Cb/" $small | ./plan'
+wrote 'refused 3 place 3'
+says_part '; check byte CA fits, Cb stands there [plan explain 3]'
+gives 2 ./plan corpus/bad/02-lower-letter-g.plan
+wrote 'refused 2 place 1'
 
 # made STATUS TABLE ANSWER HINT: what make says of a table that is typed.
 made() {
@@ -266,11 +351,11 @@ explained 12 34 'line 34 (after task 32, the last)'
 explained 13 0 'the list that a program lends'
 explained 14 32 'task 32'
 explained 16 0 'the buffer that a program lends'
-for number in '' No. --- 1e1 +9 -9 0 00 09 9.0 ' 9' 15 100 14x '9
+for number in '' No. --- 1e1 +9 -9 0 00 09 9.0 ' 9' 17 100 14x '9
 9'; do
     gives 3 ./plan explain -- "$number"
     wrote ''
-    said "plan: explain takes the number of a refusal, 1 to 14 or 16, and not '$number' [plan --help]"
+    said "plan: explain takes the number of a refusal, 1 to 16, and not '$number' [plan --help]"
 done
 gives 3 ./plan explain ---
 gives 3 ./plan --explain
@@ -321,7 +406,10 @@ gives 0 ./plan "$room/p"
 for plan in examples/*.plan corpus/good/*.plan corpus/bad/*.plan; do
     listing=${plan%.plan}.listing
     case $(head -n 1 "$listing") in "plan "*) status=0 ;; "refused 14 "*) status=1 ;; *) status=2 ;; esac
-    [ "$status" -eq 2 ] || sh_gives 0 './plan show "$plan" | ./plan make | cmp - "$plan"'
+    tr a-f A-F <"$plan" >"$room/raised"
+    [ "$status" -eq 2 ] || sh_gives 0 './plan show "$plan" | ./plan make | cmp - "$room/raised"'
+    sh_gives "$status" 'tr A-F a-f <"$plan" | ./plan'
+    holds "$listing"
     gives "$status" ./plan "$plan"
     holds "$listing"
     [ "$status" -gt 0 ] || said ''

@@ -21,9 +21,11 @@ cc_with() { "${CC:-cc}" -O1 -Wall -Wextra -Wconversion -pedantic -Werror -Iinclu
 wrapper() {
     try "the wrapper does not build" rust --crate-type rlib --crate-name eskihrum -l static=eskihrum \
         -o "$room/libeskihrum.rlib" rust/src/lib.rs
-    try "its tests do not build" rust --test --extern eskihrum="$room/libeskihrum.rlib" -o "$room/wrapper" \
-        rust/tests/promises.rs
-    try "the wrapper breaks a promise" "$room/wrapper" --test-threads=1
+    for tests in promises editions fewest_promises; do
+        try "its tests do not build" rust --test --extern eskihrum="$room/libeskihrum.rlib" \
+            -o "$room/$tests" "rust/tests/$tests.rs"
+        try "the wrapper breaks a promise" "$room/$tests" --test-threads=1
+    done
 }
 
 header() {
@@ -32,9 +34,11 @@ header() {
     try "ar" ar rcs "$room/libheader.a" "$room/header.o"
     try "the header's tests do not build" rust --crate-type rlib --crate-name eskihrum_header \
         -l static=header -l static=eskihrum -o "$room/libeskihrum_header.rlib" rust/header/src/lib.rs
-    try "the header's tests do not build" rust --test -o "$room/header" \
-        --extern eskihrum_header="$room/libeskihrum_header.rlib" rust/header/tests/promises.rs
-    try "the header breaks a promise" "$room/header" --test-threads=1
+    for tests in promises fewest_promises; do
+        try "the header's tests do not build" rust --test -o "$room/header" \
+            --extern eskihrum_header="$room/libeskihrum_header.rlib" "rust/header/tests/$tests.rs"
+        try "the header breaks a promise" "$room/header" --test-threads=1
+    done
 }
 
 [ $# -gt 0 ] || set -- wrapper header

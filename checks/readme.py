@@ -19,9 +19,11 @@ NOT_RUN = {
     "cd bench && cargo run --offline --release": "the benchmark takes minutes, and its figures differ",
     "cd bench && cargo run --offline --release -- all": "the same with the slowest plan",
     "cd bench && cargo run --offline --release -- some edge_fp": "a part of it",
+    "cd bench && cargo run --offline --release -- cores": "a row for each workload, which the paper adds up",
     "cd bench && cargo run --offline --release -- compare 3000": "a part of it, without figures",
     "cd bench && cargo run --offline --release -- hunt 300": "takes minutes, and what it finds differs",
     "cd bench && cargo run --offline --release -- growth ../docs/growth.svg": "writes a paper's picture",
+    "cd bench && cargo run --offline --release -- rounds": "a part of it",
     "cd bench && cargo run --offline --release -- make": "writes plans anew",
     "tools/build.sh archive": "the archive has a check of its own",
 }

@@ -37,7 +37,7 @@ extern "C" {
 /* The project's version, and what this header knows of the archive. An archive serves it exactly if
  * eskihrum_abi() is at least ESKIHRUM_ABI: calls and numbers are added, and never change their meaning. */
 #define ESKIHRUM_VERSION "0.2.0"
-#define ESKIHRUM_ABI 2
+#define ESKIHRUM_ABI 4
 
 /* A table has at most so many tasks; room for so many records is always enough. */
 #define ESKIHRUM_TASKS 32
@@ -71,9 +71,11 @@ typedef struct eskihrum_answer {
     uint32_t yes;          /* 1 if every task has a bound under the flags in the records, or if the plan that
                               was asked for is written; else 0 */
     uint32_t forced;       /* how many tasks forcing made non-preemptive */
-    uint32_t passes;       /* how many tests of the whole table forcing made, under refusal 14 too */
+    uint32_t passes;       /* how many tests of the whole table forcing made, under refusals 14 and 15 too */
     uint32_t records;      /* how many records were written: one for each task, or 0 in a refusal */
-    uint32_t reserved[3];  /* 0 */
+    uint32_t rounds;       /* edition 2: how many rounds the last test had, with a no too; 0 in a refusal */
+    uint32_t cores;        /* the fewest cores with which forcing accepts, where they were asked for */
+    uint32_t reserved[1];  /* 0 */
     uint32_t end_low;      /* the place after the last byte written into a buffer: eskihrum_end puts */
     uint32_t end_high;     /* its two halves together */
     uint32_t reserved2[5]; /* 0 */
@@ -96,6 +98,8 @@ ESKIHRUM_AT(eskihrum_answer, yes, 2);
 ESKIHRUM_AT(eskihrum_answer, forced, 3);
 ESKIHRUM_AT(eskihrum_answer, passes, 4);
 ESKIHRUM_AT(eskihrum_answer, records, 5);
+ESKIHRUM_AT(eskihrum_answer, rounds, 6);
+ESKIHRUM_AT(eskihrum_answer, cores, 7);
 ESKIHRUM_AT(eskihrum_answer, end_low, 9);
 ESKIHRUM_AT(eskihrum_answer, end_high, 10);
 ESKIHRUM_HOLDS(sizeof(eskihrum_answer) == 16 * sizeof(uint32_t));
@@ -120,6 +124,27 @@ uint32_t eskihrum_flat_test_tasks(uint32_t cores, uint32_t policy, const uint32_
 uint32_t eskihrum_flat_force_tasks(uint32_t cores, uint32_t policy, const uint32_t *tasks, size_t tasks_len,
                                    uint32_t *records, size_t records_len, uint32_t *answer,
                                    size_t answer_len);
+
+/* The same four under the second edition of the test: the answer has its rounds, and 15 stands for 14. */
+uint32_t eskihrum_flat_test_plan_2(const uint8_t *text, size_t text_len, uint32_t *records,
+                                   size_t records_len, uint32_t *answer, size_t answer_len);
+uint32_t eskihrum_flat_force_plan_2(const uint8_t *text, size_t text_len, uint32_t *records,
+                                    size_t records_len, uint32_t *answer, size_t answer_len);
+uint32_t eskihrum_flat_test_tasks_2(uint32_t cores, uint32_t policy, const uint32_t *tasks, size_t tasks_len,
+                                    uint32_t *records, size_t records_len, uint32_t *answer,
+                                    size_t answer_len);
+uint32_t eskihrum_flat_force_tasks_2(uint32_t cores, uint32_t policy, const uint32_t *tasks, size_t tasks_len,
+                                     uint32_t *records, size_t records_len, uint32_t *answer,
+                                     size_t answer_len);
+
+/* The fewest cores, 1 to 16, with which forcing accepts a plan, or a table of numbers, with the records of
+ * that forcing. The number of cores that is given is checked, and otherwise not used. The result is the
+ * answer's yes; where 16 cores are too few the refusal is 14, with place and passes as found there. */
+uint32_t eskihrum_flat_fewest_plan(const uint8_t *text, size_t text_len, uint32_t *records,
+                                   size_t records_len, uint32_t *answer, size_t answer_len);
+uint32_t eskihrum_flat_fewest_tasks(uint32_t cores, uint32_t policy, const uint32_t *tasks, size_t tasks_len,
+                                    uint32_t *records, size_t records_len, uint32_t *answer,
+                                    size_t answer_len);
 
 /* A table of numbers as a plan, and the plan of text_len bytes at text as changed by forcing, into the buffer
  * from the place start on. The answer's end place is the one after the last byte written; the bytes before
@@ -153,8 +178,30 @@ static inline size_t eskihrum_numbers(size_t n, size_t most, size_t size) {
 
 /* An answer of which nothing is said yet. */
 static inline eskihrum_answer eskihrum_no_answer(void) {
-    const eskihrum_answer none = {0, 0, 0, 0, 0, 0, {0, 0, 0}, 0, 0, {0, 0, 0, 0, 0}};
+    const eskihrum_answer none = {0, 0, 0, 0, 0, 0, 0, 0, {0}, 0, 0, {0, 0, 0, 0, 0}};
     return none;
+}
+
+/* A job on a plan, and one on a list of tasks, by one of the archive's functions. */
+typedef uint32_t eskihrum_on_plan(const uint8_t *, size_t, uint32_t *, size_t, uint32_t *, size_t);
+typedef uint32_t eskihrum_on_tasks(uint32_t, uint32_t, const uint32_t *, size_t, uint32_t *, size_t,
+                                   uint32_t *, size_t);
+
+static inline eskihrum_answer eskihrum_ask_plan(eskihrum_on_plan *job, const void *text, size_t bytes,
+                                                eskihrum_record *records, size_t room) {
+    eskihrum_answer answer = eskihrum_no_answer();
+    job((const uint8_t *)text, bytes, (uint32_t *)records, eskihrum_numbers(room, ESKIHRUM_TASKS, 3),
+        (uint32_t *)&answer, 16);
+    return answer;
+}
+
+static inline eskihrum_answer eskihrum_ask_tasks(eskihrum_on_tasks *job, uint32_t cores, uint32_t policy,
+                                                 const eskihrum_task *tasks, size_t n,
+                                                 eskihrum_record *records, size_t room) {
+    eskihrum_answer answer = eskihrum_no_answer();
+    job(cores, policy, (const uint32_t *)tasks, eskihrum_numbers(n, ESKIHRUM_TASKS + 1, 4),
+        (uint32_t *)records, eskihrum_numbers(room, ESKIHRUM_TASKS, 3), (uint32_t *)&answer, 16);
+    return answer;
 }
 
 /* The test of a plan: the `bytes` bytes at text. room is how many records there is room for at records. The
@@ -162,41 +209,68 @@ static inline eskihrum_answer eskihrum_no_answer(void) {
  * contents. A no is no refusal: the records without a bound say why. */
 static inline eskihrum_answer eskihrum_test_plan(const void *text, size_t bytes, eskihrum_record *records,
                                                  size_t room) {
-    eskihrum_answer answer = eskihrum_no_answer();
-    eskihrum_flat_test_plan((const uint8_t *)text, bytes, (uint32_t *)records,
-                            eskihrum_numbers(room, ESKIHRUM_TASKS, 3), (uint32_t *)&answer, 16);
-    return answer;
+    return eskihrum_ask_plan(eskihrum_flat_test_plan, text, bytes, records, room);
 }
 
 /* Forcing of a plan: makes preemptive tasks without a bound non-preemptive, and tests again. Where it
  * accepts, the records have the flags at the end: these are to be installed. A refusal writes none. */
 static inline eskihrum_answer eskihrum_force_plan(const void *text, size_t bytes, eskihrum_record *records,
                                                   size_t room) {
-    eskihrum_answer answer = eskihrum_no_answer();
-    eskihrum_flat_force_plan((const uint8_t *)text, bytes, (uint32_t *)records,
-                             eskihrum_numbers(room, ESKIHRUM_TASKS, 3), (uint32_t *)&answer, 16);
-    return answer;
+    return eskihrum_ask_plan(eskihrum_flat_force_plan, text, bytes, records, room);
 }
 
 /* The test of n tasks on so many cores under ESKIHRUM_EDF or ESKIHRUM_FP, as that of a plan. */
 static inline eskihrum_answer eskihrum_test_tasks(uint32_t cores, uint32_t policy, const eskihrum_task *tasks,
                                                   size_t n, eskihrum_record *records, size_t room) {
-    eskihrum_answer answer = eskihrum_no_answer();
-    eskihrum_flat_test_tasks(cores, policy, (const uint32_t *)tasks,
-                             eskihrum_numbers(n, ESKIHRUM_TASKS + 1, 4), (uint32_t *)records,
-                             eskihrum_numbers(room, ESKIHRUM_TASKS, 3), (uint32_t *)&answer, 16);
-    return answer;
+    return eskihrum_ask_tasks(eskihrum_flat_test_tasks, cores, policy, tasks, n, records, room);
 }
 
 /* Forcing of n tasks, as that of a plan. */
 static inline eskihrum_answer eskihrum_force_tasks(uint32_t cores, uint32_t policy,
                                                    const eskihrum_task *tasks, size_t n,
                                                    eskihrum_record *records, size_t room) {
-    eskihrum_answer answer = eskihrum_no_answer();
-    eskihrum_flat_force_tasks(cores, policy, (const uint32_t *)tasks,
-                              eskihrum_numbers(n, ESKIHRUM_TASKS + 1, 4), (uint32_t *)records,
-                              eskihrum_numbers(room, ESKIHRUM_TASKS, 3), (uint32_t *)&answer, 16);
-    return answer;
+    return eskihrum_ask_tasks(eskihrum_flat_force_tasks, cores, policy, tasks, n, records, room);
+}
+
+/* The same jobs under the second edition of the test, which accepts what the first does, and more.
+ * answer.rounds is how many rounds the last test had. Forcing that finds no pass ends in 15, which does not
+ * say that there is none. A test can need many rounds: hundreds of thousands are known. */
+static inline eskihrum_answer eskihrum_test_plan_2(const void *text, size_t bytes, eskihrum_record *records,
+                                                   size_t room) {
+    return eskihrum_ask_plan(eskihrum_flat_test_plan_2, text, bytes, records, room);
+}
+
+static inline eskihrum_answer eskihrum_force_plan_2(const void *text, size_t bytes, eskihrum_record *records,
+                                                    size_t room) {
+    return eskihrum_ask_plan(eskihrum_flat_force_plan_2, text, bytes, records, room);
+}
+
+static inline eskihrum_answer eskihrum_test_tasks_2(uint32_t cores, uint32_t policy,
+                                                    const eskihrum_task *tasks, size_t n,
+                                                    eskihrum_record *records, size_t room) {
+    return eskihrum_ask_tasks(eskihrum_flat_test_tasks_2, cores, policy, tasks, n, records, room);
+}
+
+static inline eskihrum_answer eskihrum_force_tasks_2(uint32_t cores, uint32_t policy,
+                                                     const eskihrum_task *tasks, size_t n,
+                                                     eskihrum_record *records, size_t room) {
+    return eskihrum_ask_tasks(eskihrum_flat_force_tasks_2, cores, policy, tasks, n, records, room);
+}
+
+/* The fewest cores, 1 to 16, with which forcing accepts a plan: answer.cores, with the records, forced count
+ * and passes of that forcing. With every larger number it accepts as well, and with every smaller one it
+ * refuses with 14. The number in the head is checked, and otherwise not used. Where 16 cores are too few the
+ * refusal is 14, with place and passes as found there. */
+static inline eskihrum_answer eskihrum_fewest_plan(const void *text, size_t bytes, eskihrum_record *records,
+                                                   size_t room) {
+    return eskihrum_ask_plan(eskihrum_flat_fewest_plan, text, bytes, records, room);
+}
+
+/* The fewest cores for n tasks, as those of a plan: cores is checked, and otherwise not used. */
+static inline eskihrum_answer eskihrum_fewest_tasks(uint32_t cores, uint32_t policy,
+                                                    const eskihrum_task *tasks, size_t n,
+                                                    eskihrum_record *records, size_t room) {
+    return eskihrum_ask_tasks(eskihrum_flat_fewest_tasks, cores, policy, tasks, n, records, room);
 }
 
 /* The end place of what a call has written into a buffer, 0 in a refusal. */
@@ -236,8 +310,8 @@ static inline const char *eskihrum_text(uint32_t number) {
     /* texts: begin */
     case 1: return "Fewer bytes are left than the due line and its line end need, or the last line end is "
                    "missing.";
-    case 2: return "A byte is no digit 0-9 or A-F where one is due, or the byte after the line's digits is "
-                   "not 0A.";
+    case 2: return "A byte is no digit 0-9, A-F or a-f where one is due, or the byte after the line's "
+                   "digits is not 0A.";
     case 3: return "The bytes of the line, its check byte included, do not sum to 0 modulo 256.";
     case 4: return "The line's first byte is not the kind that is due: 01 for the head, 02 for a task.";
     case 5: return "The number of cores is not 1 to 16.";
@@ -251,6 +325,8 @@ static inline const char *eskihrum_text(uint32_t number) {
     case 13: return "The caller's list has fewer records than the table has tasks.";
     case 14: return "Forcing has ended, and the task still has no bound. No choice of further "
                     "non-preemptive tasks passes the test.";
+    case 15: return "Forcing under the second edition has ended, all tasks are non-preemptive, and the task "
+                    "has no bound. Another choice of non-preemptive tasks may pass.";
     case 16: return "The buffer has too little room for the plan from the start place on, or the start "
                     "place lies past its end.";
     /* texts: end */
@@ -264,7 +340,8 @@ static inline const char *eskihrum_advice(uint32_t number) {
     /* advice: begin */
     case 1: return "Send the whole file again; end the last line with one byte 0A; compare the head's count "
                    "with the task lines.";
-    case 2: return "Write upper-case digits, two to a byte, and end each line with one byte 0A.";
+    case 2: return "Write digits 0-9 and A-F, in either case, two to a byte, and end each line with one "
+                   "byte 0A.";
     case 3: return "Send the line again, or work its check byte out anew: plan says on standard error which "
                    "one fits.";
     case 4: return "Put the head first, and then only task lines.";
@@ -280,6 +357,8 @@ static inline const char *eskihrum_advice(uint32_t number) {
     case 14: return "Shorten an execution time, lengthen a period, take a task away or add a core: none of "
                     "these turns a yes into a no. A deadline can go either way, so try it in both "
                     "directions. The place is the lowest-numbered task without a bound after forcing.";
+    case 15: return "Give other tasks as non-preemptive, or change times, tasks or cores, and try again. "
+                    "The place is the lowest-numbered task without a bound.";
     case 16: return "Lend a longer buffer, or start earlier: a plan has 11 bytes and 31 for each task, "
                     "1,003 at most.";
     /* advice: end */

@@ -34,10 +34,10 @@ sources() {
     {
         cat TOOLCHAIN
         reached "$1"
-        reached "$1" | cut -d : -f 1 | while read -r crate; do
-            find "crates/$crate/src" "crates/$crate/specs" "crates/$crate/proofs" -type f \
-                \( -name '*.rt' -o -name '*.antt' \) -exec sha256sum {} + 2>/dev/null
-        done | LC_ALL=C sort
+        # a crate's name has no space, and a folder that it lacks has no file
+        # shellcheck disable=SC2046
+        find $(reached "$1" | awk -F : '{ c = "crates/" $1; print c "/src", c "/specs", c "/proofs" }') \
+            -type f \( -name '*.rt' -o -name '*.antt' \) -exec sha256sum {} + 2>/dev/null | LC_ALL=C sort
     } | sum
 }
 

@@ -3,7 +3,10 @@
 _plan() {
     local plan=${COMP_WORDS[0]} word=${COMP_WORDS[COMP_CWORD]} before=${COMP_WORDS[COMP_CWORD - 1]} words=''
     command -v -- "$plan" >/dev/null || plan=plan
-    if [[ $before == -o ]]; then
+    if [[ $before == --edition ]]; then
+        mapfile -t COMPREPLY < <(compgen -W '1 2' -- "$word")
+        return
+    elif [[ $before == -o ]]; then
         words=''
     elif [[ $word == -* ]]; then
         words=$("$plan" --help 2>/dev/null |

@@ -89,19 +89,27 @@ keep_text() {
     return 3
 }
 
-# Asks the printer about the plan of FILE. $listing is what it writes; the status is what that stands for. An
-# answer that is not whole is the printer's fault, since the text is there.
+# ready_to_list: the program that lists plans is there: the printer under edition 1, the desk under edition 2.
+ready_to_list() {
+    case $edition in 2) ready desk ;; *) ready ;; esac
+}
+
+# Asks for the listing of the plan of FILE. $listing is what is written; the status is what that stands for.
+# An answer that is not whole is the program's fault, since the text is there.
 ask() {
     listing=''
     keep_text "$1" || return 3
-    listing=$("$printer" <"$text")
+    case $edition in
+        2) listing=$({ printf 'list2\n'; cat "$text"; } | "$program") ;;
+        *) listing=$("$program" <"$text") ;;
+    esac
     case $listing in
         "plan "*"
 total load "*) return 0 ;;
-        "refused 14 place "*) return 1 ;;
+        "refused 14 place "* | "refused 15 place "*) return 1 ;;
         "refused "*" place "*) return 2 ;;
     esac
-    say "the printer gave no whole answer: $printer is damaged; run make, or install Eskihrum again"
+    say "the printer gave no whole answer: $program is damaged; run make, or install Eskihrum again"
     return 3
 }
 
@@ -118,7 +126,7 @@ ask_desk() {
 desk_says() {
     listing=$({ printf '%s\n' "$1"; cat "$text"; } | "$desk")
     case $listing in
-        "refused 14 place "*) refuse "$listing"; hint ''; return 1 ;;
+        "refused 14 place "* | "refused 15 place "*) refuse "$listing"; hint ''; return 1 ;;
         "refused "*" place "*) refuse "$listing"; hint ''; return 2 ;;
         ?*) return 0 ;;
     esac

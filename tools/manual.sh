@@ -34,6 +34,7 @@ cat <<'EOF'
 .SH EXAMPLES
 .nf
 plan < b.plan
+plan cores b.plan
 plan apply b.plan \-o release.plan
 plan show b.plan | plan make | cmp \- b.plan
 plan chart b.plan \-o b.svg

@@ -4,7 +4,7 @@
 
 # Without a verb: the listing of each file. A file's name stands above its listing where there are several.
 verb_() {
-    ready
+    ready_to_list
     [ $# -gt 0 ] || set -- -
     worst=0
     for file in "$@"; do
@@ -53,18 +53,24 @@ $last"
     return "$status"
 }
 
-# The table as sent: no task is forced.
+# The table as sent: no task is forced. Under edition 2 the rounds follow the answer.
 verb_test() {
-    ask_desk test "${1:--}" || return
+    ask_desk "test${edition#1}" "${1:--}" || return
     case $listing in
-        *"answer yes") answer "$listing" ;;
+        *"answer yes" | *"answer yes rounds "*) answer "$listing" ;;
         *) answer "$listing"; return 1 ;;
     esac
 }
 
+# The fewest cores, whatever the head says, and the listing with them.
+verb_cores() {
+    ask_desk cores "${1:--}" || return
+    answer "$listing"
+}
+
 # The plan as changed by forcing: what the loader installs.
 verb_apply() {
-    ask_desk apply "${1:--}" || return
+    ask_desk "apply${edition#1}" "${1:--}" || return
     answer "$listing"
 }
 

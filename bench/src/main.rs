@@ -3,12 +3,14 @@
 
 mod best;
 mod clock;
+mod cores;
 mod growth;
 mod hunt;
 mod make;
 mod mutate;
 mod plans;
 mod report;
+mod rounds;
 mod sides;
 mod steps;
 mod svg;
@@ -22,10 +24,12 @@ const USAGE: &str = "usage: bench [COMMAND]
                        every workload, the textbook iteration only where it is quick
   all                  the textbook iteration everywhere: some minutes
   some PART            the workloads whose name holds PART
+  cores [PART]         the fewest cores beside those in the heads
   compare COUNT [SEED] compares the three sides on random tables and damaged texts
   hunt SECONDS [SEED [FILE]]
                        looks for slow plans, and writes the worst into FILE
   growth FILE          evaluations a search against n, D and the ratio of periods; the picture into FILE
+  rounds               edition 2: a round beside a test of edition 1, and beside plain rounds
   make                 writes full_, unbroken_, adv_full_ and adv_ramp_edf_m11 again
 ";
 
@@ -51,6 +55,8 @@ fn run(words: &[&str]) -> Option<io::Result<()>> {
         [] => report::run("", false),
         ["all"] => report::run("", true),
         ["some", part] => report::run(part, false),
+        ["cores"] => cores::run(""),
+        ["cores", part] => cores::run(part),
         ["hunt", seconds, rest @ ..] if rest.len() <= 2 => {
             let seed = rest.first().map_or(Some(1), |seed| seed.parse().ok())?;
             return Some(hunt::run(seconds.parse().ok()?, seed, rest.get(1).map(Path::new)));
@@ -60,6 +66,7 @@ fn run(words: &[&str]) -> Option<io::Result<()>> {
             let seed = rest.first().map_or(Some(1), |seed| seed.parse().ok())?;
             trial::run(count.parse().ok()?, seed)
         }
+        ["rounds"] => rounds::run(),
         ["make"] => return Some(make::run()),
         _ => return None,
     }

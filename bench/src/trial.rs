@@ -42,7 +42,7 @@ fn damaged(random: &mut Random, table: &Table) {
         match random.small(0, 5) {
             0 => text.truncate(at.max(1)),
             1 => text.push(b'0'),
-            _ => text[at] = random.pick(b"0123456789ABCDEFabc\n /:@G\xFF"),
+            _ => text[at] = random.pick(b"0123456789ABCDEFabcdef\n /:@G`g\xFF"),
         }
     }
     compare_text(Job::Force, &text);

@@ -20,13 +20,17 @@ pub const FORCED: usize = 3;
 pub const PASSES: usize = 4;
 /// The place of the number of records that were written.
 pub const RECORDS: usize = 5;
+/// The place of the round count of the last test, under the second edition.
+pub const ROUNDS: usize = 6;
+/// The place of the fewest cores, where they were asked for.
+pub const CORES: usize = 7;
 /// The place of the low 32 bits of the end place in a buffer.
 pub const END_LOW: usize = 9;
 /// The place of its high 32 bits.
 pub const END_HIGH: usize = 10;
 
 /// What this wrapper knows of the archive: calls and numbers of an answer are only ever added.
-pub const ABI: u32 = 2;
+pub const ABI: u32 = 4;
 
 // checks/border.py compares these declarations with the archive's source.
 extern "C" {
@@ -58,6 +62,60 @@ extern "C" {
         answer_len: usize,
     ) -> u32;
     fn eskihrum_flat_force_tasks(
+        cores: u32,
+        policy: u32,
+        tasks: *const u32,
+        tasks_len: usize,
+        records: *mut u32,
+        records_len: usize,
+        answer: *mut u32,
+        answer_len: usize,
+    ) -> u32;
+    fn eskihrum_flat_test_plan_2(
+        text: *const u8,
+        text_len: usize,
+        records: *mut u32,
+        records_len: usize,
+        answer: *mut u32,
+        answer_len: usize,
+    ) -> u32;
+    fn eskihrum_flat_force_plan_2(
+        text: *const u8,
+        text_len: usize,
+        records: *mut u32,
+        records_len: usize,
+        answer: *mut u32,
+        answer_len: usize,
+    ) -> u32;
+    fn eskihrum_flat_test_tasks_2(
+        cores: u32,
+        policy: u32,
+        tasks: *const u32,
+        tasks_len: usize,
+        records: *mut u32,
+        records_len: usize,
+        answer: *mut u32,
+        answer_len: usize,
+    ) -> u32;
+    fn eskihrum_flat_force_tasks_2(
+        cores: u32,
+        policy: u32,
+        tasks: *const u32,
+        tasks_len: usize,
+        records: *mut u32,
+        records_len: usize,
+        answer: *mut u32,
+        answer_len: usize,
+    ) -> u32;
+    fn eskihrum_flat_fewest_plan(
+        text: *const u8,
+        text_len: usize,
+        records: *mut u32,
+        records_len: usize,
+        answer: *mut u32,
+        answer_len: usize,
+    ) -> u32;
+    fn eskihrum_flat_fewest_tasks(
         cores: u32,
         policy: u32,
         tasks: *const u32,
@@ -115,68 +173,70 @@ pub fn abi() -> u32 {
     unsafe { eskihrum_abi() }
 }
 
+/// A call on a plan text, and one on a flat table.
+type OnPlan = unsafe extern "C" fn(*const u8, usize, *mut u32, usize, *mut u32, usize) -> u32;
+type OnTasks = unsafe extern "C" fn(u32, u32, *const u32, usize, *mut u32, usize, *mut u32, usize) -> u32;
+
+fn on_plan(call: OnPlan, text: &[u8], records: &mut [u32], answer: &mut [u32]) -> u32 {
+    let (to, room) = (records.as_mut_ptr(), records.len());
+    // SAFETY: as above.
+    unsafe { call(text.as_ptr(), text.len(), to, room, answer.as_mut_ptr(), answer.len()) }
+}
+
+fn on_tasks(call: OnTasks, head: [u32; 2], tasks: &[u32], records: &mut [u32], answer: &mut [u32]) -> u32 {
+    let ([cores, policy], to, room) = (head, records.as_mut_ptr(), records.len());
+    // SAFETY: as above.
+    unsafe { call(cores, policy, tasks.as_ptr(), tasks.len(), to, room, answer.as_mut_ptr(), answer.len()) }
+}
+
 /// The test of a plan text; 1 for a yes.
 pub fn test_plan(text: &[u8], records: &mut [u32], answer: &mut [u32]) -> u32 {
-    // SAFETY: as above.
-    unsafe {
-        eskihrum_flat_test_plan(
-            text.as_ptr(),
-            text.len(),
-            records.as_mut_ptr(),
-            records.len(),
-            answer.as_mut_ptr(),
-            answer.len(),
-        )
-    }
+    on_plan(eskihrum_flat_test_plan, text, records, answer)
 }
 
 /// Forcing of a plan text; 1 where it accepts.
 pub fn force_plan(text: &[u8], records: &mut [u32], answer: &mut [u32]) -> u32 {
-    // SAFETY: as above.
-    unsafe {
-        eskihrum_flat_force_plan(
-            text.as_ptr(),
-            text.len(),
-            records.as_mut_ptr(),
-            records.len(),
-            answer.as_mut_ptr(),
-            answer.len(),
-        )
-    }
+    on_plan(eskihrum_flat_force_plan, text, records, answer)
 }
 
 /// The test of a flat table; 1 for a yes.
 pub fn test_tasks(cores: u32, policy: u32, tasks: &[u32], records: &mut [u32], answer: &mut [u32]) -> u32 {
-    // SAFETY: as above.
-    unsafe {
-        eskihrum_flat_test_tasks(
-            cores,
-            policy,
-            tasks.as_ptr(),
-            tasks.len(),
-            records.as_mut_ptr(),
-            records.len(),
-            answer.as_mut_ptr(),
-            answer.len(),
-        )
-    }
+    on_tasks(eskihrum_flat_test_tasks, [cores, policy], tasks, records, answer)
 }
 
 /// Forcing of a flat table; 1 where it accepts.
 pub fn force_tasks(cores: u32, policy: u32, tasks: &[u32], records: &mut [u32], answer: &mut [u32]) -> u32 {
-    // SAFETY: as above.
-    unsafe {
-        eskihrum_flat_force_tasks(
-            cores,
-            policy,
-            tasks.as_ptr(),
-            tasks.len(),
-            records.as_mut_ptr(),
-            records.len(),
-            answer.as_mut_ptr(),
-            answer.len(),
-        )
-    }
+    on_tasks(eskihrum_flat_force_tasks, [cores, policy], tasks, records, answer)
+}
+
+/// The test of a plan text under the second edition; 1 for a yes.
+pub fn test_plan_2(text: &[u8], records: &mut [u32], answer: &mut [u32]) -> u32 {
+    on_plan(eskihrum_flat_test_plan_2, text, records, answer)
+}
+
+/// Forcing of a plan text under the second edition; 1 where it accepts.
+pub fn force_plan_2(text: &[u8], records: &mut [u32], answer: &mut [u32]) -> u32 {
+    on_plan(eskihrum_flat_force_plan_2, text, records, answer)
+}
+
+/// The test of a flat table under the second edition; 1 for a yes.
+pub fn test_tasks_2(cores: u32, policy: u32, tasks: &[u32], records: &mut [u32], answer: &mut [u32]) -> u32 {
+    on_tasks(eskihrum_flat_test_tasks_2, [cores, policy], tasks, records, answer)
+}
+
+/// Forcing of a flat table under the second edition; 1 where it accepts.
+pub fn force_tasks_2(cores: u32, policy: u32, tasks: &[u32], records: &mut [u32], answer: &mut [u32]) -> u32 {
+    on_tasks(eskihrum_flat_force_tasks_2, [cores, policy], tasks, records, answer)
+}
+
+/// The fewest cores for a plan text; 1 where there is such a number.
+pub fn fewest_plan(text: &[u8], records: &mut [u32], answer: &mut [u32]) -> u32 {
+    on_plan(eskihrum_flat_fewest_plan, text, records, answer)
+}
+
+/// The fewest cores for a flat table; 1 where there is such a number. `cores` is checked, and not used.
+pub fn fewest_tasks(cores: u32, policy: u32, tasks: &[u32], records: &mut [u32], answer: &mut [u32]) -> u32 {
+    on_tasks(eskihrum_flat_fewest_tasks, [cores, policy], tasks, records, answer)
 }
 
 /// A flat table as a plan, from the place `start` of the buffer on; 1 where it is written.

@@ -3,11 +3,13 @@
 //! A function for each job: the test says whether every task has a bound, forcing makes tasks non-preemptive
 //! until the test passes. Both take a plan text ([`test_plan`], [`force_plan`]) or a list of tasks
 //! ([`test_tasks`], [`force_tasks`]), and write a [`Record`] for each task into a list that the caller lends.
+//! The same four take an [`Edition`] beside the rest ([`test_plan_in`] and so on), and give the round count.
+//! Two more say how few cores would do: [`fewest_plan`] and [`fewest_tasks`].
 //! Two more write a plan into a buffer: [`write_tasks`] that of a list of tasks, and [`write_changed`] that
 //! of a plan text with the flags at the end of forcing, which is what a loader installs.
 //!
 //! ```
-//! use eskihrum::{force_tasks, test_plan, test_tasks, write_changed, write_tasks};
+//! use eskihrum::{fewest_tasks, force_tasks, test_plan, test_tasks, write_changed, write_tasks};
 //! use eskihrum::{Policy, Record, Task, PLAN_BYTES};
 //!
 //! let tasks = [Task::preemptive(12, 4, 12), Task::preemptive(24, 9, 18)];
@@ -22,6 +24,9 @@
 //! let refusal = force_tasks(1, Policy::Edf, &tasks, &mut room).unwrap_err();
 //! assert_eq!((refusal.number, refusal.passes), (14, 3));
 //! println!("{refusal}\n{}", refusal.advice());
+//!
+//! let fewest = fewest_tasks(16, Policy::Edf, &tasks, &mut room)?;
+//! assert_eq!((fewest.cores, fewest.forced.count), (2, 0));
 //!
 //! let (mut sent, mut changed) = ([0; PLAN_BYTES], [0; PLAN_BYTES]);
 //! let end = write_tasks(1, Policy::Fp, &tasks, &mut sent, 0)?;
@@ -43,10 +48,12 @@
 
 use core::fmt;
 
+mod editions;
 pub mod flat;
 mod refusal;
 mod texts;
 
+pub use editions::{force_plan_in, force_tasks_in, test_plan_in, test_tasks_in, Edition, Rounded};
 pub use refusal::{Place, Refusal};
 
 /// Room for so many records is always enough: a table has at most so many tasks.
@@ -131,6 +138,16 @@ pub struct Forced<'a> {
     pub records: &'a [Record],
 }
 
+/// The fewest cores, 1 to 16, with which forcing accepts, and what it answers with them. With every larger
+/// number it accepts as well, and with every smaller one it refuses with 14.
+#[derive(Clone, Copy, Debug, PartialEq, Eq)]
+pub struct Fewest<'a> {
+    /// Their number.
+    pub cores: u32,
+    /// What forcing answers with so many cores.
+    pub forced: Forced<'a>,
+}
+
 /// The test of a plan text.
 ///
 /// Every byte string is answered. The first records of `room` are those of the plan's tasks in table order,
@@ -173,6 +190,30 @@ pub fn force_tasks<'a>(
     let list = flat::numbers(tasks);
     flat::force_tasks(cores, policy as u32, list, flat::numbers_mut(room), &mut answer);
     forced(answer, refusal::of_tasks, room)
+}
+
+/// The fewest cores for a plan text, with the records of that forcing as in [`test_plan`]. The number in the
+/// head is checked, and otherwise not used. Where 16 cores are too few the refusal is 14, with place and
+/// passes as found there.
+pub fn fewest_plan<'a>(text: &[u8], room: &'a mut [Record]) -> Result<Fewest<'a>, Refusal> {
+    let mut answer = [0; flat::FIELDS];
+    flat::fewest_plan(text, flat::numbers_mut(room), &mut answer);
+    let forced = forced(answer, refusal::of_plan, room)?;
+    Ok(Fewest { cores: answer[flat::CORES], forced })
+}
+
+/// The fewest cores for a list of tasks, as in [`fewest_plan`]: `cores` is checked, and otherwise not used.
+pub fn fewest_tasks<'a>(
+    cores: u32,
+    policy: Policy,
+    tasks: &[Task],
+    room: &'a mut [Record],
+) -> Result<Fewest<'a>, Refusal> {
+    let mut answer = [0; flat::FIELDS];
+    let list = flat::numbers(tasks);
+    flat::fewest_tasks(cores, policy as u32, list, flat::numbers_mut(room), &mut answer);
+    let forced = forced(answer, refusal::of_tasks, room)?;
+    Ok(Fewest { cores: answer[flat::CORES], forced })
 }
 
 /// The plan of a list of tasks, from the place `start` of the buffer on; the answer is the place after its

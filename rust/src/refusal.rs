@@ -19,11 +19,11 @@ pub enum Place {
 /// A numbered refusal of documents 01 and 02. The caller's list or buffer is as it was.
 #[derive(Clone, Copy, Debug, PartialEq, Eq)]
 pub struct Refusal {
-    /// Its number, 1 to 14, or 16.
+    /// Its number, 1 to 16; 14 under the first edition only, 15 under the second.
     pub number: u32,
     /// Its place.
     pub place: Place,
-    /// How many tests forcing made before 14; 0 under every other number.
+    /// How many tests forcing made before 14 or 15; 0 under every other number.
     pub passes: u32,
 }
 

@@ -7,7 +7,10 @@ pub(crate) const fn text(number: u32) -> &'static str {
     match number {
         // texts: begin
         1 => "Fewer bytes are left than the due line and its line end need, or the last line end is missing.",
-        2 => "A byte is no digit 0-9 or A-F where one is due, or the byte after the line's digits is not 0A.",
+        2 => {
+            "A byte is no digit 0-9, A-F or a-f where one is due, or the byte after the line's digits is \
+             not 0A."
+        }
         3 => "The bytes of the line, its check byte included, do not sum to 0 modulo 256.",
         4 => "The line's first byte is not the kind that is due: 01 for the head, 02 for a task.",
         5 => "The number of cores is not 1 to 16.",
@@ -22,6 +25,10 @@ pub(crate) const fn text(number: u32) -> &'static str {
         14 => {
             "Forcing has ended, and the task still has no bound. No choice of further non-preemptive tasks \
              passes the test."
+        }
+        15 => {
+            "Forcing under the second edition has ended, all tasks are non-preemptive, and the task has no \
+             bound. Another choice of non-preemptive tasks may pass."
         }
         16 => {
             "The buffer has too little room for the plan from the start place on, or the start place lies \
@@ -40,7 +47,7 @@ pub(crate) const fn advice(number: u32) -> &'static str {
             "Send the whole file again; end the last line with one byte 0A; compare the head's count with \
              the task lines."
         }
-        2 => "Write upper-case digits, two to a byte, and end each line with one byte 0A.",
+        2 => "Write digits 0-9 and A-F, in either case, two to a byte, and end each line with one byte 0A.",
         3 => {
             "Send the line again, or work its check byte out anew: plan says on standard error which one \
              fits."
@@ -59,6 +66,10 @@ pub(crate) const fn advice(number: u32) -> &'static str {
             "Shorten an execution time, lengthen a period, take a task away or add a core: none of these \
              turns a yes into a no. A deadline can go either way, so try it in both directions. The place \
              is the lowest-numbered task without a bound after forcing."
+        }
+        15 => {
+            "Give other tasks as non-preemptive, or change times, tasks or cores, and try again. The place \
+             is the lowest-numbered task without a bound."
         }
         16 => {
             "Lend a longer buffer, or start earlier: a plan has 11 bytes and 31 for each task, 1,003 at \

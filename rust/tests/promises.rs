@@ -289,7 +289,7 @@ fn refusals_in_words() {
     assert!(refusal(14, Place::Task(1), 1).to_string().starts_with("refused 14 at task 1 after 1 pass: "));
     assert_eq!(refusal(5, Place::Nowhere, 0).advice(), "Give the number of cores of the chip.");
     assert!(refusal(16, Place::Nowhere, 0).to_string().starts_with("refused 16: The buffer has too little"));
-    assert_eq!(refusal(15, Place::Nowhere, 0).text(), "There is no such refusal.");
+    assert_eq!(refusal(17, Place::Nowhere, 0).text(), "There is no such refusal.");
     assert_eq!(refusal(99, Place::Nowhere, 0).text(), "There is no such refusal.");
     assert_eq!(refusal(0, Place::Nowhere, 0).advice(), "There is no such refusal.");
     assert_eq!([Policy::Edf.to_string(), Policy::Fp.to_string()], ["EDF", "FP"]);

@@ -54,7 +54,7 @@ fn flat(records: &[Record]) -> Vec<u32> {
 }
 
 /// The literal search where it is quick enough, the textbook iteration elsewhere.
-fn bound_of(table: &Table, flags: &[u32], k: usize) -> Option<u32> {
+pub fn bound_of(table: &Table, flags: &[u32], k: usize) -> Option<u32> {
     if table.tasks[k].deadline <= 200 {
         bound::bound_of(table, flags, k)
     } else {

@@ -1,6 +1,7 @@
 //! The plans of the directories `examples` and `corpus`, named by what they show.
 
 use crate::hand::{case_a, case_c, lettered, many, table};
+use crate::letter_cases::{eleven_of_letters, lowered, lowered_part, Lowered};
 use crate::plan::{line, write, Table, EDF, FP};
 
 /// A file name without its ending, and the text.
@@ -25,7 +26,19 @@ pub fn good() -> Vec<Plan> {
     let mut plans = named(catching());
     plans.extend(named(borders()));
     plans.extend(named(many_passes()));
+    plans.extend(lower_case());
     plans
+}
+
+/// Document 01's plan with its letters lowered, and a plan of letters with each second one lowered.
+fn lower_case() -> Vec<Plan> {
+    let (a, letters) = (write(&case_a()), write(&eleven_of_letters()));
+    let text = |name: &str, text: Vec<u8>| (name.to_string(), text);
+    vec![
+        text("lower-case", lowered(&a, Lowered::All)),
+        text("lower-case-last-digit", lowered_part(&a, 71, 72)),
+        text("mixed-case", lowered(&letters, Lowered::Odd)),
+    ]
 }
 
 /// Small tables that give wrong planners away; corpus/README.md says which.
@@ -139,10 +152,14 @@ fn bad_lines() -> Vec<Plan> {
         text("01-task-line-missing", &b[..42]),
         text("01-last-line-end-missing", &b[..72]),
         text("02-carriage-returns", crlf.as_bytes()),
-        text("02-lower-case", &b.to_ascii_lowercase()),
         replaced("02-space-in-task", 20, b' '),
         replaced("02-colon-after-nine", 11, b':'),
         replaced("02-at-sign-before-a", 40, b'@'),
+        replaced("02-backquote-before-lower-a", 71, b'`'),
+        replaced("02-letter-g", 9, b'G'),
+        replaced("02-lower-letter-g", 8, b'g'),
+        replaced("02-control-byte-like-a-digit", 40, 0x11),
+        replaced("03-lower-case-sum-off", 71, b'b'),
         replaced("02-zero-byte", 0, 0),
         replaced("03-sum-off-by-one", 40, b'2'),
         replaced("03-digits-damaged", 25, b'5'),

@@ -96,13 +96,21 @@ fn frame(left: &mut &[u8], size: usize, kind: u8, line: u32) -> Result<Vec<u8>, 
     Ok(bytes)
 }
 
-/// Upper case only.
+/// Both cases of the six letters (document 02, wish 6), and no other byte besides the ten figures.
 fn digit(byte: u8) -> Option<u8> {
     match byte {
         b'0'..=b'9' => Some(byte - b'0'),
         b'A'..=b'F' => Some(byte - b'A' + 10),
+        b'a'..=b'f' => Some(byte - b'a' + 10),
         _ => None,
     }
+}
+
+/// The text with its letters a to f raised to A to F. A text is read exactly if this is the written form of
+/// a legal table, and writing what was read gives this.
+pub fn raised(text: &[u8]) -> Vec<u8> {
+    let raise = |&byte: &u8| if (b'a'..=b'f').contains(&byte) { byte - b'a' + b'A' } else { byte };
+    text.iter().map(raise).collect()
 }
 
 /// The fields of a task frame: 02, flag, T, C, D, check.

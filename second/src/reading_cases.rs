@@ -2,6 +2,7 @@
 
 use crate::batch::LONGEST_TEXT;
 use crate::hand::{case_a, many, table};
+use crate::letter_cases;
 use crate::plan::{line, read, task_bytes, write, Refusal, Table, Task, EDF, FP};
 use crate::random::Random;
 use crate::tables::small_table;
@@ -47,25 +48,26 @@ pub fn cases() -> Vec<Case> {
     bytes(&mut all);
     fields(&mut all);
     lines(&mut all);
+    letter_cases::add(&mut all);
     drawn(&mut all);
     let mut seen = std::collections::HashSet::new();
     all.retain(|case| seen.insert(case.text.clone()));
     all
 }
 
-fn plain(all: &mut Vec<Case>, text: Vec<u8>) {
+pub fn plain(all: &mut Vec<Case>, text: Vec<u8>) {
     all.push(Case { text, made_for: None });
 }
 
-fn made(all: &mut Vec<Case>, text: Vec<u8>, number: u32, place: u32) {
+pub fn made(all: &mut Vec<Case>, text: Vec<u8>, number: u32, place: u32) {
     all.push(Case { text, made_for: Some((number, place)) });
 }
 
-fn one_task() -> Table {
+pub fn one_task() -> Table {
     table(EDF, 4, &[(0x00ABCDEF % 1_000_000, 0x1234, 0x1A2B3, 'N')])
 }
 
-fn three_tasks() -> Table {
+pub fn three_tasks() -> Table {
     table(FP, 16, &[(1_000_000, 1, 1_000_000, 'P'), (1, 1, 1, 'N'), (254, 250, 253, 'P')])
 }
 

@@ -117,9 +117,11 @@ const BORDERS: &[u32] =
 /// Bytes that lie on or beside a border of the digits, and bytes that editors like to put in.
 pub const BYTES: &[u8] = b"/:@G`afg09AF \r\n\t\0\xFF";
 
-/// A damaged copy of a plan; about one in ten is left as it was.
+/// A damaged copy of a plan; about one in ten is left as it was. Some have letters lowered, which is no
+/// damage.
 pub fn damaged(random: &mut Random, table: &Table) -> Vec<u8> {
     let mut text = if random.once_in(3) { write(&off_border(random, table)) } else { write(table) };
+    lower_some(random, &mut text);
     for _ in 0..random.pick(&[0, 1, 1, 1, 2]) {
         damage_once(random, &mut text);
     }
@@ -147,6 +149,16 @@ pub fn off_border(random: &mut Random, table: &Table) -> Table {
     other
 }
 
+/// In half of all texts every letter is lowered, each second one, or one here and there.
+pub fn lower_some(random: &mut Random, text: &mut [u8]) {
+    let once_in = random.pick(&[0, 0, 0, 1, 2, 8]);
+    for byte in text.iter_mut().filter(|byte| byte.is_ascii_uppercase()) {
+        if once_in > 0 && random.once_in(once_in) {
+            byte.make_ascii_lowercase();
+        }
+    }
+}
+
 fn damage_once(random: &mut Random, text: &mut Vec<u8>) {
     if text.is_empty() {
         return;
@@ -154,8 +166,8 @@ fn damage_once(random: &mut Random, text: &mut Vec<u8>) {
     let at = random.between(0, text.len() as u64 - 1) as usize;
     match random.small(0, 8) {
         0 | 1 => text[at] = random.pick(BYTES),
-        2 => text[at] = random.pick(b"0123456789ABCDEF"),
-        3 => text[at] = text[at].to_ascii_lowercase(),
+        2 => text[at] = random.pick(b"0123456789ABCDEFabcdef"),
+        3 => text[at] ^= 0x20,
         4 => drop(text.remove(at)),
         5 => text.insert(at, random.pick(BYTES)),
         6 => text.truncate(at),

@@ -17,6 +17,7 @@ use crate::plan::{write, Refusal, Table, Task, MOST_TASKS};
 use crate::random::Random;
 use crate::tables::small_table;
 use crate::textbook;
+use crate::texts::lower_some;
 use crate::writing::{write_at, write_changed};
 
 pub const SEED: u64 = 303;
@@ -182,7 +183,8 @@ pub fn changes() -> Vec<Change> {
     changes_from(SEED + 1, 1000)
 }
 
-/// Plans to be changed, with so many random ones from this seed, of which some are damaged.
+/// Plans to be changed, with so many random ones from this seed, of which some are damaged and some have
+/// letters lowered.
 pub fn changes_from(seed: u64, plans: u32) -> Vec<Change> {
     let mut all = Vec::new();
     let mut random = Random::new(seed);
@@ -200,6 +202,7 @@ pub fn changes_from(seed: u64, plans: u32) -> Vec<Change> {
             let place = random.between(0, text.len() as u64 - 1) as usize;
             text[place] = random.pick(b"0F1aG\n ");
         }
+        lower_some(&mut random, &mut text);
         all.push(Change { text, start, room });
     }
     all

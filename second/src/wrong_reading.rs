@@ -2,112 +2,73 @@
 
 use crate::plan::{refuse, Refusal, Table, Task, LONGEST_PLAN};
 
-#[derive(Clone, Copy, Debug, PartialEq, Eq)]
-pub enum Slip {
-    None,
-    LowerCaseRead,
-    NeighbourDigitsRead,
-    LineEndUnchecked,
-    CarriageReturnRead,
-    LastLineEndOptional,
-    ShortLineIsTwo,
-    SumUnchecked,
-    SumWithoutCheck,
-    KindBeforeSum,
-    KindUnchecked,
-    HeadFieldsBeforeKind,
-    ZeroCoresRead,
-    SixteenCoresRefused,
-    SeventeenCoresRead,
-    PolicyTwoRead,
-    PolicyBeforeCores,
-    NoTasksRead,
-    TasksThirtyTwoRefused,
-    FlagTwoRead,
-    PeriodZeroRead,
-    PeriodMillionRefused,
-    PeriodToPowerOfTwo,
-    DeadlineToLongest,
-    DeadlineBelowPeriod,
-    CostToPeriod,
-    CostBelowDeadline,
-    CostZeroRead,
-    CostBeforeDeadline,
-    FlagLast,
-    LowestByteFirst,
-    CostAndDeadlineSwapped,
-    RestIgnored,
-    RestFirst,
-    RestPlaceOneLess,
-    LengthFirst,
-    LongTextFirst,
-    DigitsFirst,
-    FieldsLast,
-    PlaceFromZero,
-    PlaceOfTask,
-    LastFault,
-}
+pub use crate::reading_slips::{Slip, SLIPS};
 
-pub const SLIPS: &[Slip] = &[
-    Slip::LowerCaseRead,
-    Slip::NeighbourDigitsRead,
-    Slip::LineEndUnchecked,
-    Slip::CarriageReturnRead,
-    Slip::LastLineEndOptional,
-    Slip::ShortLineIsTwo,
-    Slip::SumUnchecked,
-    Slip::SumWithoutCheck,
-    Slip::KindBeforeSum,
-    Slip::KindUnchecked,
-    Slip::HeadFieldsBeforeKind,
-    Slip::ZeroCoresRead,
-    Slip::SixteenCoresRefused,
-    Slip::SeventeenCoresRead,
-    Slip::PolicyTwoRead,
-    Slip::PolicyBeforeCores,
-    Slip::NoTasksRead,
-    Slip::TasksThirtyTwoRefused,
-    Slip::FlagTwoRead,
-    Slip::PeriodZeroRead,
-    Slip::PeriodMillionRefused,
-    Slip::PeriodToPowerOfTwo,
-    Slip::DeadlineToLongest,
-    Slip::DeadlineBelowPeriod,
-    Slip::CostToPeriod,
-    Slip::CostBelowDeadline,
-    Slip::CostZeroRead,
-    Slip::CostBeforeDeadline,
-    Slip::FlagLast,
-    Slip::LowestByteFirst,
-    Slip::CostAndDeadlineSwapped,
-    Slip::RestIgnored,
-    Slip::RestFirst,
-    Slip::RestPlaceOneLess,
-    Slip::LengthFirst,
-    Slip::LongTextFirst,
-    Slip::DigitsFirst,
-    Slip::FieldsLast,
-    Slip::PlaceFromZero,
-    Slip::PlaceOfTask,
-    Slip::LastFault,
-];
+// ---------------------------------------------------------------- digits with a slip
 
 fn digit(slip: Slip, byte: u8) -> Option<u8> {
+    let byte = match slip {
+        Slip::FoldedByOr => byte | 0x20,
+        Slip::FoldedBySeven => byte & 0x7F,
+        _ => byte,
+    };
     match byte {
         b'0'..=b'9' => Some(byte - b'0'),
         b'A'..=b'F' => Some(byte - b'A' + 10),
-        b'a'..=b'f' if slip == Slip::LowerCaseRead => Some(byte - b'a' + 10),
+        b'a'..=b'f' => lower_digit(slip, byte),
         b':'..=b'@' if slip == Slip::NeighbourDigitsRead => Some(byte - b'0'),
+        b'g' if slip == Slip::LowerGRead => Some(16),
+        b'G' if slip == Slip::UpperGRead => Some(16),
+        b'`' if slip == Slip::BackquoteRead => Some(9),
         _ => None,
     }
 }
 
-/// One line off the text, with 1, 2, 3, 4 except for the slip.
-fn frame(slip: Slip, left: &mut &[u8], size: usize, kind: u8, line: u32) -> Result<Vec<u8>, Refusal> {
+fn lower_digit(slip: Slip, byte: u8) -> Option<u8> {
+    match (slip, byte) {
+        (Slip::UpperCaseOnly, _) | (Slip::LowerALeftOut, b'a') | (Slip::LowerFLeftOut, b'f') => None,
+        (Slip::LowerAIsEleven, b'a') => Some(11),
+        (Slip::LowerWithoutTen, _) => Some(byte - b'a' + 1),
+        _ => Some(byte - b'a' + 10),
+    }
+}
+
+/// The letters that a text has in a case: lower, upper.
+fn has_cases(text: &[u8]) -> [bool; 2] {
+    [text.iter().any(u8::is_ascii_lowercase), text.iter().any(u8::is_ascii_uppercase)]
+}
+
+/// Whether the slip refuses the cases of these digits of a line; `before` holds the lines before it.
+fn wrong_case(slip: Slip, before: &[u8], digits: &[u8], line: u32) -> bool {
+    let size = digits.len();
+    let lower = |at: usize| digits[at].is_ascii_lowercase();
+    match slip {
+        Slip::LowerFirstDigitOnly => (1..size).step_by(2).any(lower),
+        Slip::LowerSecondDigitOnly => (0..size).step_by(2).any(lower),
+        Slip::LowerHeadOnly => line > 1 && (0..size).any(lower),
+        Slip::LowerTasksOnly => line == 1 && (0..size).any(lower),
+        Slip::LowerKindRefused => (0..2).any(lower),
+        Slip::LowerCheckRefused => (size - 2..size).any(lower),
+        Slip::LowerFieldsRefused => (2..size - 2).any(lower),
+        Slip::MixedByteRefused => digits.chunks(2).any(|pair| has_cases(pair) == [true, true]),
+        Slip::MixedLineRefused => has_cases(digits) == [true, true],
+        Slip::MixedPlanRefused => has_cases(&[before, digits].concat()) == [true, true],
+        _ => false,
+    }
+}
+
+// ---------------------------------------------------------------- lines with a slip
+
+/// One line off the text, with 1, 2, 3, 4 except for the slip. `all` is the whole text.
+fn frame(slip: Slip, all: &[u8], left: &mut &[u8], due: (usize, u8, u32)) -> Result<Vec<u8>, Refusal> {
+    let (size, kind, line) = due;
     let digits = 2 * size;
     let end_missing = slip == Slip::LastLineEndOptional && left.len() == digits;
     if left.len() < digits + 1 && !end_missing {
         return refuse(if slip == Slip::ShortLineIsTwo && !left.is_empty() { 2 } else { 1 }, line);
+    }
+    if wrong_case(slip, &all[..all.len() - left.len()], &left[..digits], line) {
+        return refuse(2, line);
     }
     let mut bytes = Vec::new();
     for pair in left[..digits].chunks(2) {
@@ -120,12 +81,18 @@ fn frame(slip: Slip, left: &mut &[u8], size: usize, kind: u8, line: u32) -> Resu
     if slip == Slip::CarriageReturnRead && left[digits..].starts_with(b"\r\n") {
         used += 1;
     }
-    if !end_missing && left[used] != 0x0A && slip != Slip::LineEndUnchecked {
+    if !end_missing && !is_end(slip, left[used]) {
         return refuse(2, line);
     }
     check_frame(slip, &bytes, kind, line)?;
     *left = &left[(used + 1).min(left.len())..];
     Ok(bytes)
+}
+
+/// Whether the byte after the digits ends the line.
+fn is_end(slip: Slip, byte: u8) -> bool {
+    let folded = slip == Slip::LineEndFolded && byte | 0x20 == 0x0A | 0x20;
+    byte == 0x0A || folded || slip == Slip::LineEndUnchecked
 }
 
 /// 3 and 4.
@@ -260,12 +227,13 @@ pub fn read(slip: Slip, text: &[u8]) -> Result<Table, Refusal> {
 
 fn read_lines(slip: Slip, text: &[u8]) -> Result<Table, Refusal> {
     beforehand(slip, text)?;
+    let text = if slip == Slip::RaisedCopyCut { &text[..text.len().min(LONGEST_PLAN)] } else { text };
     let mut left = text;
-    let head = frame(slip, &mut left, 5, 1, 1)?;
+    let head = frame(slip, text, &mut left, (5, 1, 1))?;
     check_head(slip, &head, 1)?;
     let n = head[3] as usize;
     between(slip, left, n)?;
-    let tasks = read_tasks(slip, &mut left, n)?;
+    let tasks = read_tasks(slip, text, &mut left, n)?;
     if !left.is_empty() && slip != Slip::RestIgnored {
         let place = n as u32 + if slip == Slip::RestPlaceOneLess { 1 } else { 2 };
         return refuse(12, place);
@@ -273,11 +241,11 @@ fn read_lines(slip: Slip, text: &[u8]) -> Result<Table, Refusal> {
     Ok(Table { cores: head[1] as u32, policy: head[2] as u32, tasks })
 }
 
-fn read_tasks(slip: Slip, left: &mut &[u8], n: usize) -> Result<Vec<Task>, Refusal> {
+fn read_tasks(slip: Slip, all: &[u8], left: &mut &[u8], n: usize) -> Result<Vec<Task>, Refusal> {
     let mut tasks = Vec::new();
     let mut fault = Ok(());
     for line in 2..n as u32 + 2 {
-        let bytes = frame(slip, left, 15, 2, line)?;
+        let bytes = frame(slip, all, left, (15, 2, line))?;
         let task = task_of(slip, &bytes);
         let found = check_task(slip, &task, line);
         match slip {

@@ -3,7 +3,7 @@
 use second::forcing::{force, test, BoundOf};
 use second::hand::*;
 use second::listing::listing;
-use second::plan::{read, write, Table, EDF, FP};
+use second::plan::{raised, read, write, Table, EDF, FP};
 use second::{bound, textbook};
 
 const WAYS: [BoundOf; 2] = [bound::bound_of, textbook::bound_of];
@@ -111,12 +111,22 @@ fn just_outside_the_ranges() {
     refused(&write(&table(FP, 1, &[(10, 1, 11, 'P')])), 10, 2);
 }
 
+/// Document 01's last case as document 02 has it.
 #[test]
-fn a_lower_case_digit_is_2() {
+fn a_lower_case_digit_is_read() {
     let text = String::from_utf8(write(&case_a())).unwrap();
-    refused(text.to_lowercase().as_bytes(), 2, 1);
-    refused(text.replace("CA", "Ca").as_bytes(), 2, 3);
     assert!(text.contains("CA"));
+    for other in [text.to_lowercase(), text.replace("CA", "Ca"), text.replace("FB", "fB")] {
+        assert_ne!(other, text);
+        assert_eq!(read(other.as_bytes()), Ok(case_a()));
+        assert_eq!(raised(other.as_bytes()), text.as_bytes());
+        for way in WAYS {
+            assert_eq!(listing(other.as_bytes(), way), listing(text.as_bytes(), way));
+        }
+    }
+    refused(text.replace("CA", "Cg").as_bytes(), 2, 3);
+    refused(text.replace("CA", "C`").as_bytes(), 2, 3);
+    refused(text.replace("CA", "Cb").as_bytes(), 3, 3);
 }
 
 #[test]

@@ -1,6 +1,6 @@
 //! The reading cases: what they were made for, what they cover, and which wrong readers they give away.
 
-use second::plan::{read, write};
+use second::plan::{raised, read, write};
 use second::reading_cases::{cases, expected, line_for};
 use second::wrong_reading::{self, Slip, SLIPS};
 
@@ -16,15 +16,28 @@ fn each_fault_is_found_where_it_was_put() {
 }
 
 #[test]
-fn what_is_read_is_written_the_same() {
-    let mut read_cases = 0;
+fn what_is_read_is_written_with_its_letters_raised() {
+    let (mut read_cases, mut lower_cases) = (0, 0);
     for case in cases() {
         if let Ok(table) = read(&case.text) {
-            assert_eq!(write(&table), case.text);
+            assert_eq!(write(&table), raised(&case.text));
             read_cases += 1;
+            lower_cases += u32::from(raised(&case.text) != case.text);
         }
     }
-    assert!(read_cases >= 100);
+    assert!(read_cases >= 600 && lower_cases >= 500, "{read_cases} {lower_cases}");
+}
+
+/// A reader of upper case alone, given the raised text, answers as the reader of the text itself: a text is
+/// read exactly if the raised one is a written form, and no refusal depends on the case of a letter.
+#[test]
+fn the_raised_text_is_answered_the_same() {
+    for case in cases() {
+        let said = read(&case.text);
+        assert_eq!(wrong_reading::read(Slip::UpperCaseOnly, &raised(&case.text)), said);
+        assert_eq!(read(&case.text.to_ascii_uppercase()), said);
+        assert_eq!(read(&case.text.to_ascii_lowercase()), said);
+    }
 }
 
 #[test]

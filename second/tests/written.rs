@@ -2,7 +2,7 @@
 
 use second::forcing::force;
 use second::hand::{case_a, case_c, case_d, case_e, case_h, many};
-use second::plan::{check_list, read, refuse, Refusal, Task};
+use second::plan::{check_list, raised, read, refuse, Refusal, Task};
 use second::plan::{write, Table, LONGEST_PERIOD, LONGEST_PLAN};
 use second::random::Random;
 use second::tables::{next_edge_pair, small_table};
@@ -256,15 +256,16 @@ fn what_is_written_is_read_and_is_what_plan_writes() {
 #[test]
 fn what_is_read_is_written() {
     let mut random = Random::new(32);
-    let mut read_ones = 0;
+    let (mut read_ones, mut lower_ones) = (0, 0);
     for table in random_tables(33) {
         let text = damaged(&mut random, &table);
         if let Ok(table) = read(&text) {
-            assert_eq!(written(&table, &vec![9; text.len()], 0), (Ok(text.len()), text));
+            assert_eq!(written(&table, &vec![9; text.len()], 0), (Ok(text.len()), raised(&text)));
             read_ones += 1;
+            lower_ones += u32::from(raised(&text) != text);
         }
     }
-    assert!(read_ones >= 100);
+    assert!(read_ones >= 100 && lower_ones >= 50);
 }
 
 /// Lists with numbers on or beside a border: refused as a list with enough records is, or written.
@@ -299,6 +300,10 @@ fn hand_sums_as_changed() {
         let mut buffer = [b'#'; 80];
         assert_eq!(write_changed(AS_SENT, &mut buffer, 4, way), Ok(77));
         assert_eq!(buffer[..], [b"####", AS_CHANGED, b"###"].concat());
+        // In lower case it is the same plan, and is written in upper case.
+        let mut buffer = [b'#'; 80];
+        assert_eq!(write_changed(&AS_SENT.to_ascii_lowercase(), &mut buffer, 4, way), Ok(77));
+        assert_eq!(buffer[..], [b"####", AS_CHANGED, b"###"].concat());
     }
     // Case c passes as given, and is written again as it was sent.
     let text = b"01010102FB\x0A02010000000C000000040000000BE2\x0A0201000000180000000900000012CA\x0A";
@@ -313,7 +318,7 @@ fn changing_refuses_as_forcing_does_and_then_16() {
     for (text, said) in [
         (b"".to_vec(), refuse(1, 1)),
         (AS_SENT[..LENGTH - 1].to_vec(), refuse(1, 3)),
-        (AS_SENT.to_ascii_lowercase(), refuse(2, 1)),
+        ([&AS_SENT[..LENGTH - 2], b"g\x0A"].concat(), refuse(2, 3)),
         (b"01010102FA\x0A".to_vec(), refuse(3, 1)),
         (b"02010102FA\x0A".to_vec(), refuse(4, 1)),
         (b"01000102FC\x0A".to_vec(), refuse(5, 1)),

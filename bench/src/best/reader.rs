@@ -12,7 +12,7 @@ const TASK_LINE: usize = 2 * TASK + 1;
 
 const NO_DIGIT: u8 = 255;
 
-/// The value of each byte as a digit.
+/// The value of each byte as a digit, letters in either case.
 static DIGITS: [u8; 256] = digits();
 
 const fn digits() -> [u8; 256] {
@@ -20,6 +20,7 @@ const fn digits() -> [u8; 256] {
     let mut value = 0;
     while value < 16 {
         table[b"0123456789ABCDEF"[value as usize] as usize] = value;
+        table[b"0123456789abcdef"[value as usize] as usize] = value;
         value += 1;
     }
     table

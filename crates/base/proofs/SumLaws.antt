@@ -100,6 +100,18 @@ top-sum f zero n = omega arith
 top-sum f (suc m) zero = omega arith
 top-sum f (suc m) (suc n) = omega (arith, top-sum f m n, top-sum f (suc m) n)
 
+pub top-cap : (f : ℕ → ℕ) (b m n : ℕ) → ((i : ℕ) → i < n → f i ≤ b) → topTo f m n ≤ m * b
+unfolding topTo
+top-cap f b zero n h = omega arith
+top-cap f b (suc m) zero h = omega arith
+top-cap f b (suc m) (suc n) h =
+    omega (
+      arith,
+      top-cap f b m n (λ i l. h i (omega arith)),
+      top-cap f b (suc m) n (λ i l. h i (omega arith)),
+      h n (omega arith),
+    )
+
 -- of a sum only one term changes
 pub sum-one : (f g : ℕ → ℕ) (p n : ℕ) → p < n → ((i : ℕ) → i < n → (i ≡ p → ⊥) → g i ≡ f i)
     → sumTo g n + f p ≡ sumTo f n + g p

@@ -13,10 +13,14 @@ use Rattle.table.specs.Table.{policyOf}
 use Rattle.largest.specs.Largest.{Largest}
 use Rattle.largest.proofs.KeepLaws.{largest-same, largest-none}
 use Rattle.blocking.specs.Blocking.{blockFor, candidateIn, blockIn}
-use Rattle.blocking.proofs.Lines.{fixed-priority}
 
 pub empty-size : {xs : List ℕ} → xs ≡ replicate 32 0 → length xs ≡ 32
 empty-size e = ap length e ∙ length-replicate {A = ℕ} 32 0
+
+-- every number but 0 stands for FP
+pub fixed-priority : (p : ℕ) → (p ≡ 0 → ⊥) → policyOf p ≡ FP
+fixed-priority zero some = absurd (some refl)
+fixed-priority (suc p) some = refl
 
 -- no candidate under EDF, nor beside a preemptive k
 edf-none : (b : Bool) (fk fi : ℕ) (h : Bool) (c : ℕ) → pick b 0 (blockFor EDF fk fi h c) ≡ 0

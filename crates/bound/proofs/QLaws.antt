@@ -1,5 +1,6 @@
--- The bound of a task is q + C - 1, with the least q from 1 to D - C + 1 at which the shares under the caps
--- sum to less than m × q; over any legal system, and any rows that hold its numbers.
+-- The bound of a task is q + C - 1, with the least q from 1 to D - C + 1 at which the whole sum is less than
+-- m × q; over any legal system. Without slack that is the sum of the shares under the caps, over any rows
+-- that hold the system's numbers.
 -- Assumes nothing.
 use Prim.Native.Nat.{ℕ, zero, suc, _+_, _*_, _-_, _/_, _≤_, _<_, min}
 use native.Mathlib.Omega.{arith}
@@ -69,7 +70,7 @@ pub record Holds (s : System) (rest cost reach : List ℕ) : Type 0 where
 
 module _ (s : System) (fl : ℕ → ℕ) (k : ℕ) (legal : Legal s) (inside : k < s .count) where
   -- the first length is that of q = 1
-  from-ahead : from s fl k ≡ 1 + ahead s fl k
+  pub from-ahead : from s fl k ≡ 1 + ahead s fl k
   unfolding from ahead
   from-ahead = go (fl k)
     where
@@ -77,7 +78,7 @@ module _ (s : System) (fl : ℕ → ℕ) (k : ℕ) (legal : Legal s) (inside : k
       go zero = refl
       go (suc f) = omega (arith, legal .time k inside)
 
-  cap-ahead : (q : ℕ) → 1 ≤ q → cap s fl k (q + ahead s fl k) ≡ q
+  pub cap-ahead : (q : ℕ) → 1 ≤ q → cap s fl k (q + ahead s fl k) ≡ q
   unfolding cap ahead
   cap-ahead q pos = go (fl k)
     where
@@ -95,45 +96,62 @@ module _ (s : System) (fl : ℕ → ℕ) (k : ℕ) (legal : Legal s) (inside : k
       go zero = ap (plus (s .C k - 1)) (plus-none x)
       go (suc f) = plus-none (plus (s .C k - 1) x)
 
-  module _ {rest cost reach caps : List ℕ} (rows : Holds s rest cost reach) {used : ℕ}
-      (are : Caps s fl k caps used)
+  -- the whole sum, however it is worked out
+  module _ (whole : ℕ → ℕ)
+      (is : (q : ℕ) → 1 ≤ q → q ≤ s .D k - s .C k + 1
+      → whole q ≡ sumTo (shareOf s fl k (q + ahead s fl k)) (s .count)
+      + topTo (blockOf s fl k (q + ahead s fl k)) (s .cores) (s .count))
     where
-      share-is : (q i : ℕ) → 1 ≤ q → i < s .count
-          → shareAt rest cost reach caps (ahead s fl k) q i
-          ≡ min (min (W s i (q + ahead s fl k)) (at caps i)) (cap s fl k (q + ahead s fl k))
-      unfolding shareAt W
-      share-is q i pos lt =
-          rw (rows .period i lt, rows .time i lt, rows .window i lt, cap-ahead q pos) refl
+      -- k's line at a length is the line of its q
+      pub line-at : (q : ℕ) → 1 ≤ q → q ≤ s .D k - s .C k + 1
+          → satisfies s fl k (q + ahead s fl k) ≡ ltb (whole q) (s .cores * q)
+      unfolding satisfies B
+      line-at q pos high =
+          ap (λ x. leb (from s fl k + x / s .cores) (q + ahead s fl k)) (sym (is q pos high))
+          ∙ line-by-q (s .cores) q _ (from s fl k) (q + ahead s fl k) (legal .cores)
+          (omega (arith, from-ahead))
 
+      -- The bound is that of the least q.
+      pub bound-by-whole : bound s fl k
+          ≡ plus (s .C k - 1) (least (λ q. ltb (whole q) (s .cores * q)) (s .D k - s .C k + 1) 1)
+      unfolding bound leastLength
+      bound-by-whole =
+          ap (plus (byFlag (fl k) (s .C k - 1) 0))
+          (ap (least (satisfies s fl k) (s .D k - s .C k + 1)) from-ahead
+          ∙ least-shift (satisfies s fl k) (λ q. ltb (whole q) (s .cores * q)) (s .D k - s .C k + 1) 1
+          (ahead s fl k) (omega arith) (λ q low high. line-at q low (omega arith)))
+          ∙ plus-ahead (least (λ q. ltb (whole q) (s .cores * q)) (s .D k - s .C k + 1) 1)
+
+  module _ {rest cost reach : List ℕ} (rows : Holds s rest cost reach) where
+    share-is : (caps : List ℕ) (q i : ℕ) → 1 ≤ q → i < s .count
+        → shareAt rest cost reach caps (ahead s fl k) q i
+        ≡ min (min (W s i (q + ahead s fl k)) (at caps i)) (cap s fl k (q + ahead s fl k))
+    unfolding shareAt W
+    share-is caps q i pos lt =
+        rw (rows .period i lt, rows .time i lt, rows .window i lt, cap-ahead q pos) refl
+
+    pub shares-are : (caps : List ℕ) (q n : ℕ) → 1 ≤ q → n ≤ s .count
+        → sumTo (shareAt rest cost reach caps (ahead s fl k) q) n
+        ≡ sumTo (λ i. min (min (W s i (q + ahead s fl k)) (at caps i)) (cap s fl k (q + ahead s fl k))) n
+    shares-are caps q n pos few = sum-same _ _ n (λ i lt. share-is caps q i pos (omega arith))
+
+    module _ {caps : List ℕ} {used : ℕ} (are : Caps s fl k caps used) where
       sum-is : (q : ℕ) → 1 ≤ q → q ≤ s .D k - s .C k + 1
           → sumTo (shareAt rest cost reach caps (ahead s fl k) q) used
           ≡ sumTo (shareOf s fl k (q + ahead s fl k)) (s .count)
           + topTo (blockOf s fl k (q + ahead s fl k)) (s .cores) (s .count)
       sum-is q pos high =
-          sum-same _ _ used (λ i lt. share-is q i pos (omega (arith, are .within)))
+          shares-are caps q used pos (are .within)
           ∙ are .sums (q + ahead s fl k) (omega (arith, from-ahead)) (omega (arith, from-ahead))
 
-      -- k's line at a length is the line of its q
       pub line-is : (q : ℕ) → 1 ≤ q → q ≤ s .D k - s .C k + 1
           → satisfies s fl k (q + ahead s fl k)
           ≡ ltb (sumTo (shareAt rest cost reach caps (ahead s fl k) q) used) (s .cores * q)
-      unfolding satisfies B
-      line-is q pos high =
-          ap (λ x. leb (from s fl k + x / s .cores) (q + ahead s fl k)) (sym (sum-is q pos high))
-          ∙ line-by-q (s .cores) q _ (from s fl k) (q + ahead s fl k) (legal .cores)
-          (omega (arith, from-ahead))
+      line-is q pos high = line-at (λ q. sumTo (shareAt rest cost reach caps (ahead s fl k) q) used) sum-is q
+          pos high
 
-      -- The bound is that of the least q.
       pub bound-by-q : bound s fl k
           ≡ plus (s .C k - 1)
           (leastQ rest cost reach caps used (s .cores) (ahead s fl k) (s .D k - s .C k + 1))
-      unfolding bound leastLength leastQ
-      bound-by-q =
-          ap (plus (byFlag (fl k) (s .C k - 1) 0))
-          (ap (least (satisfies s fl k) (s .D k - s .C k + 1)) from-ahead
-          ∙ least-shift (satisfies s fl k)
-          (λ q. ltb (sumTo (shareAt rest cost reach caps (ahead s fl k) q) used) (s .cores * q))
-          (s .D k - s .C k + 1) 1 (ahead s fl k) (omega arith)
-          (λ q low high. line-is q low (omega arith)))
-          ∙ plus-ahead
-          (leastQ rest cost reach caps used (s .cores) (ahead s fl k) (s .D k - s .C k + 1))
+      unfolding leastQ
+      bound-by-q = bound-by-whole (λ q. sumTo (shareAt rest cost reach caps (ahead s fl k) q) used) sum-is

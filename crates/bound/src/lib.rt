@@ -12,7 +12,7 @@ use flags::Flags;
 use rows::Head;
 
 // How much longer than q a length is: C - 1 for a preemptive task, nothing for a non-preemptive one.
-fn ahead_of(flag: u32, cost: u32) -> u32
+pub fn ahead_of(flag: u32, cost: u32) -> u32
     requires { ⌜ 0 < cost ⌝ }
     ensures { λ r. ⌜ r ≡ byFlag flag 0 (cost - 1) ⌝ }
 {

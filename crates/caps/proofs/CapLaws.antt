@@ -1,9 +1,10 @@
 -- With its cap, a share is what document 01 sums, and what it adds to the m largest: by policy and flags,
--- over plain numbers. So the sum under the caps is the whole sum.
+-- over plain numbers. So the sum under the caps is what is summed with the candidates kept, under any slacks,
+-- and without slack the whole sum.
 -- Assumes nothing.
-use Prim.Native.Nat.{ℕ, zero, suc, _+_, _*_, _-_, _/_, _%_, _≤_, _<_, min}
+use Prim.Native.Nat.{ℕ, zero, suc, _+_, _-_, _/_, _≤_, _<_, min}
 use native.Mathlib.Omega.{arith}
-use native.Mathlib.Nat.{div-add-mod', div-mul-le-self, mul-le-mul-left}
+use native.Mathlib.Nat.{div-mul-le-self, mul-le-mul-left}
 use mathlib.Core.Path.{_≡_, refl, ap, _∙_}
 use mathlib.Core.Bool.{Bool, true, false}
 use lib.Dec.{eqb, ltb}
@@ -15,28 +16,33 @@ use Rattle.model.specs.Bound.{Policy, EDF, FP, System, Legal, workIn, W, E, byF
 use Rattle.model.specs.Bound.{block, shareOf, blockOf}
 use Rattle.model.proofs.ValidationLaws.{W-least}
 use Rattle.model.proofs.DifferenceLaws.{no-block}
+use Rattle.model.proofs.SlackLaws.{E-window}
 use Rattle.largest.specs.Largest.{Largest}
 use Rattle.blocking.specs.Blocking.{blockFor, blockIn}
 use Rattle.caps.specs.Caps.{capFor, capOf, capIn}
-
--- E(k,i) of a task without slack is its work in D_k, and is not above D_k
-work-is-E : (s : System) (k i : ℕ) → s .S i ≡ 0 → workIn (s .T i) (s .C i) (s .D k) ≡ E s k i
-unfolding workIn E
-work-is-E s k i none =
-    rw none (go (s .D k / s .T i * s .T i) (s .D k % s .T i) (div-add-mod' (s .D k) (s .T i)))
-  where
-    go : (a b : ℕ) → a + b ≡ s .D k
-        → s .D k / s .T i * s .C i + min (s .C i) (s .D k - a)
-        ≡ s .D k / s .T i * s .C i + min (s .C i) (b - 0)
-    go a b e = omega arith
 
 work-within : (t c x : ℕ) → c ≤ t → workIn t c x ≤ x
 unfolding workIn
 work-within t c x le = omega (arith, div-mul-le-self x t, mul-le-mul-left (x / t) le)
 
-pub E-small : (s : System) (k i : ℕ) → s .S i ≡ 0 → s .C i ≤ s .D i → s .D i ≤ s .T i → E s k i ≤ s .D k
-E-small s k i none short period =
-    omega (arith, work-is-E s k i none, work-within (s .T i) (s .C i) (s .D k) (omega arith))
+module _ (s : System) (k i : ℕ) (time : 0 < s .C i) (fits : s .S i + s .C i ≤ s .D i)
+    (period : s .D i ≤ s .T i)
+  where
+    -- E(k,i) is not above D_k
+    pub E-small : E s k i ≤ s .D k
+    E-small =
+        omega (
+          arith,
+          E-window s k i time fits period,
+          work-within (s .T i) (s .C i) (s .D k - s .S i) (omega arith),
+        )
+
+    -- a cap as the code reads it, besides what is kept
+    pub cap-read : (fl r : ℕ → ℕ) {fi fk most x window : ℕ} {h : Bool} → window ≡ s .D k - s .S i
+        → most ≡ capFor (s .policy) (ltb fi fk) h (workIn (s .T i) (s .C i) window) → fi ≡ fl i
+        → fk ≡ fl k → h ≡ s .higher k i → x ≡ r i → most + x ≡ capOf s fl k r i
+    unfolding capOf
+    cap-read fl r w e f g b x = cc (E-window s k i time fits period)
 
 cap-small : (p : Policy) (b h : Bool) (e : ℕ) → e ≤ 1000000 → capFor p b h e ≤ 1000000
 unfolding capFor
@@ -44,13 +50,6 @@ cap-small p true h e le = omega arith
 cap-small EDF false h e le = le
 cap-small FP false true e le = omega arith
 cap-small FP false false e le = omega arith
-
--- a cap as the code reads it, besides what is kept
-pub cap-read : (s : System) (fl r : ℕ → ℕ) (k i : ℕ) → s .S i ≡ 0 → {fi fk most x : ℕ} {h : Bool}
-    → most ≡ capFor (s .policy) (ltb fi fk) h (workIn (s .T i) (s .C i) (s .D k)) → fi ≡ fl i → fk ≡ fl k
-    → h ≡ s .higher k i → x ≡ r i → most + x ≡ capOf s fl k r i
-unfolding capOf
-cap-read s fl r k i none e f g b x = cc (work-is-E s k i none)
 
 pub cap-fits : (t c d : ℕ) (p : Policy) (b h : Bool) {most : ℕ} → most ≡ capFor p b h (workIn t c d) → c ≤ t
     → d ≤ 1000000 → most ≤ 1000000
@@ -120,8 +119,7 @@ no-blocks EDF fk fi h c e = refl
 no-blocks FP fk fi h c e = absurd (let z : _≡_ {A = ℕ} 0 1 = cc in omega arith)
 
 module _ (s : System) (fl : ℕ → ℕ) (k : ℕ) (legal : Legal s) (inside : k < s .count)
-    (due : s .D k ≤ 1000000) (none : (i : ℕ) → i < s .count → s .S i ≡ 0) (one : (i : ℕ) → fl i ≤ 1)
-    (r : ℕ → ℕ)
+    (due : s .D k ≤ 1000000) (one : (i : ℕ) → fl i ≤ 1) (r : ℕ → ℕ)
     (kept : Largest (blockIn (s .policy) (s .higher) (s .C) fl k) r (s .cores) (s .count))
     (l : ℕ) (first : from s fl k ≤ l) (last : l ≤ from s fl k + (s .D k - s .C k))
   where
@@ -159,33 +157,53 @@ module _ (s : System) (fl : ℕ → ℕ) (k : ℕ) (legal : Legal s) (inside : k
             (r i)
             (one i) (one k) (omega (arith, short)) le (full i)
 
-    block-cap : (i : ℕ) → i < s .count
-        → min (blockIn (s .policy) (s .higher) (s .C) fl k i) (cap s fl k l) ≡ blockOf s fl k l i
-    unfolding blockIn
-    block-cap i lt = go (s .policy) refl
-      where
-        edf : s .policy ≡ EDF → (b : Bool)
-            → pick b 0 (blockFor (s .policy) (fl k) (fl i) (s .higher k i) (s .C i)) ≡ 0
-        edf e true = refl
-        edf e false = no-blocks (s .policy) (fl k) (fl i) (s .higher k i) (s .C i) e
+    -- the shares under the caps are what is summed, with the candidates that are kept
+    pub shares-sum : sumTo (λ i. min (min (W s i l) (capIn s fl k r i)) (cap s fl k l)) (s .count)
+        ≡ sumTo (shareOf s fl k l) (s .count)
+        + topTo (λ i. min (blockIn (s .policy) (s .higher) (s .C) fl k i) (cap s fl k l)) (s .cores)
+        (s .count)
+    shares-sum =
+        sum-same _ _ (s .count) share-cap
+        ∙ sum-add (shareOf s fl k l) (λ i. min (r i) (cap s fl k l)) (s .count)
+        ∙ ap (λ x. sumTo (shareOf s fl k l) (s .count) + x) (kept .sums (cap s fl k l))
 
-        fp : s .policy ≡ FP → (b : Bool)
+    -- none of them under EDF; under FP the candidates of document 01
+    pub edf-blocks : s .policy ≡ EDF → (i : ℕ)
+        → min (blockIn (s .policy) (s .higher) (s .C) fl k i) (cap s fl k l) ≡ 0
+    unfolding blockIn
+    edf-blocks e i = omega (arith, go (eqb i k))
+      where
+        go : (b : Bool) → pick b 0 (blockFor (s .policy) (fl k) (fl i) (s .higher k i) (s .C i)) ≡ 0
+        go true = refl
+        go false = no-blocks (s .policy) (fl k) (fl i) (s .higher k i) (s .C i) e
+
+    pub fp-blocks : s .policy ≡ FP → (i : ℕ)
+        → min (blockIn (s .policy) (s .higher) (s .C) fl k i) (cap s fl k l) ≡ blockOf s fl k l i
+    unfolding blockIn blockOf
+    fp-blocks e i = go (eqb i k)
+      where
+        go : (b : Bool)
             → min (pick b 0 (blockFor (s .policy) (fl k) (fl i) (s .higher k i) (s .C i))) (cap s fl k l)
             ≡ pick b 0
             (block (s .policy) (fl k) (fl i) (s .higher k i) (ltb (s .D k) (s .D i)) (W s i l) (E s k i)
             (s .C i) (cap s fl k l))
-        fp e true = omega arith
-        fp e false = one-block (s .policy) (fl k) (fl i) (s .higher k i) _ _ _ _ _ e (full i)
+        go true = omega arith
+        go false = one-block (s .policy) (fl k) (fl i) (s .higher k i) _ _ _ _ _ e (full i)
 
-        go : (p : Policy) → s .policy ≡ p
-            → min (blockIn (s .policy) (s .higher) (s .C) fl k i) (cap s fl k l) ≡ blockOf s fl k l i
-        go EDF e = omega (arith, edf e (eqb i k), no-block s fl k l i e (none i lt) short)
-        go FP e = unfold blockOf in fp e (eqb i k)
+    module _ (none : (i : ℕ) → i < s .count → s .S i ≡ 0) where
+      block-cap : (i : ℕ) → i < s .count
+          → min (blockIn (s .policy) (s .higher) (s .C) fl k i) (cap s fl k l) ≡ blockOf s fl k l i
+      block-cap i lt = go (s .policy) refl
+        where
+          go : (p : Policy) → s .policy ≡ p
+              → min (blockIn (s .policy) (s .higher) (s .C) fl k i) (cap s fl k l) ≡ blockOf s fl k l i
+          go EDF e = omega (arith, edf-blocks e i, no-block s fl k l i e (none i lt) short)
+          go FP e = fp-blocks e i
 
-    pub caps-sum : sumTo (λ i. min (min (W s i l) (capIn s fl k r i)) (cap s fl k l)) (s .count)
-        ≡ sumTo (shareOf s fl k l) (s .count) + topTo (blockOf s fl k l) (s .cores) (s .count)
-    caps-sum =
-        sum-same _ _ (s .count) share-cap
-        ∙ sum-add (shareOf s fl k l) (λ i. min (r i) (cap s fl k l)) (s .count)
-        ∙ ap (λ x. sumTo (shareOf s fl k l) (s .count) + x)
-        (kept .sums (cap s fl k l) ∙ top-same _ _ (s .cores) (s .count) block-cap)
+      -- Without slack that is the whole sum.
+      pub caps-sum : sumTo (λ i. min (min (W s i l) (capIn s fl k r i)) (cap s fl k l)) (s .count)
+          ≡ sumTo (shareOf s fl k l) (s .count) + topTo (blockOf s fl k l) (s .cores) (s .count)
+      caps-sum =
+          shares-sum
+          ∙ ap (λ x. sumTo (shareOf s fl k l) (s .count) + x)
+          (top-same _ _ (s .cores) (s .count) block-cap)

@@ -1,4 +1,3 @@
-pub mod Lines
 pub mod UsedLaws
 pub mod CapLaws
 pub mod MadeLaws

@@ -1,7 +1,7 @@
--- The caps that are made are the caps of task k: over any legal system without slacks, and for the system
--- that rows hold.
+-- The caps that are made are small under any slacks; without slack they are the caps of task k, over any
+-- legal system, and for the system that rows hold.
 -- Assumes nothing.
-use Prim.Native.Nat.{ℕ, zero, suc, _-_, _≤_, _<_, min}
+use Prim.Native.Nat.{ℕ, zero, suc, _+_, _-_, _≤_, _<_, min}
 use native.Mathlib.Omega.{arith}
 use native.Mathlib.Nat.{eq-or-lt-of-le}
 use mathlib.Core.Path.{_≡_, refl, ap, _∙_}
@@ -37,7 +37,7 @@ block-small false FP zero zero true c = omega arith
 block-small false FP zero zero false c = omega arith
 
 -- what is 0 from a place on adds nothing
-sum-used : (f : ℕ → ℕ) (r n : ℕ) → r ≤ n → ((i : ℕ) → r ≤ i → i < n → f i ≡ 0) → sumTo f r ≡ sumTo f n
+pub sum-used : (f : ℕ → ℕ) (r n : ℕ) → r ≤ n → ((i : ℕ) → r ≤ i → i < n → f i ≡ 0) → sumTo f r ≡ sumTo f n
 unfolding sumTo
 sum-used f r zero le none = ap (sumTo f) (let e : r ≡ 0 = omega arith in e)
 sum-used f r (suc n) le none =
@@ -51,35 +51,34 @@ sum-used f r (suc n) le none =
     (eq-or-lt-of-le le)
 
 module _ (s : System) (fl : ℕ → ℕ) (k : ℕ) (legal : Legal s) (inside : k < s .count)
-    (due : s .D k ≤ 1000000) (none : (i : ℕ) → i < s .count → s .S i ≡ 0) (one : (i : ℕ) → fl i ≤ 1)
+    (due : s .D k ≤ 1000000) (fits : (i : ℕ) → i < s .count → s .S i + s .C i ≤ s .D i)
     (cost : (i : ℕ) → i < s .count → s .C i ≤ 1000000)
     (r : ℕ → ℕ) (kept : Largest (blockIn (s .policy) (s .higher) (s .C) fl k) r (s .cores) (s .count))
     (caps : List ℕ) (is : (i : ℕ) → i < s .count → at caps i ≡ capIn s fl k r i)
-    {used : ℕ} (count : Used (at caps) (s .count) used)
   where
-    in-small : (i : ℕ) → i < s .count → capIn s fl k r i ≤ 1000000
+    pub caps-small : (i : ℕ) → i < s .count → at caps i ≤ 1000000
     unfolding capIn capOf blockIn
-    in-small i lt = go (eqb i k) (kept .within i lt)
+    caps-small i lt = omega (arith, is i lt, go (eqb i k) (kept .within i lt))
       where
         go : (b : Bool) → r i ≤ pick b 0 (blockFor (s .policy) (fl k) (fl i) (s .higher k i) (s .C i))
             → pick b 0 (capOf s fl k r i) ≤ 1000000
         go true le = omega arith
         go false le =
             one-small (s .policy) (fl k) (fl i) (s .higher k i) (E s k i) (s .C i) (r i)
-            (omega (arith, E-small s k i (none i lt) (legal .short i lt) (legal .period i lt))) (cost i lt) le
+            (omega (arith, E-small s k i (legal .time i lt) (fits i lt) (legal .period i lt))) (cost i lt) le
 
-    pub caps-are : Caps s fl k caps used
-    caps-are = record {
+    pub caps-are : (none : (i : ℕ) → i < s .count → s .S i ≡ 0) (one : (i : ℕ) → fl i ≤ 1) {used : ℕ}
+        → Used (at caps) (s .count) used → Caps s fl k caps used
+    caps-are none one {used} count = record {
       within = count .within;
-      small = λ i lt. omega (arith, is i lt, in-small i lt);
+      small = caps-small;
       sums = λ l first last.
           sum-used (λ i. min (min (W s i l) (at caps i)) (cap s fl k l)) used (s .count) (count .within)
           (λ i low lt. omega (arith, count .rest i low lt))
           ∙ sum-same _ _ (s .count) (λ i lt. ap (λ x. min (min (W s i l) x) (cap s fl k l)) (is i lt))
-          ∙ caps-sum s fl k legal inside due none one r kept l first last;
+          ∙ caps-sum s fl k legal inside due one r kept l first last none;
     }
 
--- of the system that rows hold
 module _ {h : Head} {inverse rest cost reach : List ℕ} (legal : LegalRows h inverse rest cost reach)
     (flags : Flags) (k : ℕ) (inside : k < h .n) {r : ℕ → ℕ}
     (kept : Largest (blockIn (policyOf (h .policy)) higherAt (at cost) (flagIn flags) k) r (h .cores) (h .n))
@@ -101,5 +100,6 @@ module _ {h : Head} {inverse rest cost reach : List ℕ} (legal : LegalRows h in
         → Caps (systemIn h rest cost reach) (flagIn flags) k caps used
     rows-caps caps is used =
         caps-are (systemIn h rest cost reach) (flagIn flags) k (rows-legal legal) inside
-        (omega (arith, legal .each k inside .deadline, legal .each k inside .period)) (λ i lt. refl)
-        (flag-small flags) (λ i lt. omega (arith, legal .each i lt .period)) r kept caps is used
+        (omega (arith, legal .each k inside .deadline, legal .each k inside .period)) (λ i lt. omega arith)
+        (λ i lt. omega (arith, legal .each i lt .period)) r kept caps is (λ i lt. refl) (flag-small flags)
+        used

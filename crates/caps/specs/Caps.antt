@@ -2,8 +2,6 @@
 -- 01 is the sum of min(W_i, cap_i, q).
 --
 --   document 01                                       here
---   no cap but q                                      1,000,000, which q never exceeds
---   a task that is not summed                         0
 --   the cap besides q of what is summed               capFor
 --   with what is kept of a candidate                  capOf, and capIn by place, 0 for k itself
 --   the caps of task k, of which the first used count Caps s fl k cap used
@@ -11,20 +9,13 @@
 -- Assumes nothing.
 use Prim.Native.Nat.{ℕ, _+_, _-_, _≤_, _<_, min}
 use mathlib.Core.Path.{_≡_}
-use mathlib.Core.Bool.{Bool, true, false}
 use mathlib.Core.List.{List}
 use lib.Dec.{eqb, ltb}
 use Rattle.base.specs.Choice.{pick}
 use Rattle.base.specs.Rows.{at}
 use Rattle.base.specs.Sums.{sumTo, topTo}
-use Rattle.model.specs.Bound.{Policy, EDF, FP, System, W, E, from, cap, shareOf, blockOf}
-
--- by policy, whether i is non-preemptive beside a preemptive k, and whether i is higher than k; e = E(k,i)
-unfoldable pub capFor : Policy → Bool → Bool → ℕ → ℕ
-capFor p true h e = 1000000
-capFor EDF false h e = e
-capFor FP false true e = 1000000
-capFor FP false false e = 0
+use Rattle.model.specs.Bound.{System, W, E, from, cap, shareOf, blockOf}
+unfoldable pub use Rattle.cap_for.specs.CapFor.{capFor}
 
 -- the cap of task i in the sum of another task k, where r holds the candidates that are kept
 unfoldable pub capOf : System → (ℕ → ℕ) → ℕ → (ℕ → ℕ) → ℕ → ℕ

@@ -2,42 +2,14 @@
 // length. Candidates are no case of their own: EDF has none, and under FP the m that count are shares too,
 // with the cap C - 1.
 ghost use mathlib.Core.Path.{_≡_};
-ghost use Prim.Native.Nat.{ℕ, _+_, _≤_, _<_};
+ghost use Prim.Native.Nat.{ℕ, _≤_, _<_};
 ghost use lib.ListN.{length, replicate};
-ghost use lib.Dec.{ltb};
 ghost use Rattle.base.specs.Rows.{at};
-ghost use Rattle.model.specs.Bound.{workIn};
-ghost use Rattle.table.specs.Table.{policyOf};
 ghost use Rattle.flags.specs.Flags.{flagIn};
-ghost use Rattle.window.specs.Window.{Windowed};
 ghost use Rattle.rows.specs.Held.{systemIn, LegalRows};
-ghost use Rattle.caps.specs.Caps.{capFor, capIn, Used, Caps};
+ghost use Rattle.caps.specs.Caps.{capIn, Used, Caps};
 use flags::Flags;
 use rows::Head;
-
-// The cap of a share besides q: none is 1,000,000, since q is never larger. E(k,i) is the work in a window of
-// k's deadline.
-fn cap_for(
-    policy: u32,
-    fk: u32,
-    fi: u32,
-    higher: bool,
-    inverse: u64,
-    rest: u32,
-    cost: u32,
-    due: u32,
-) -> u32
-    requires { ⌜ Windowed inverse rest cost due ⌝ }
-    ensures { λ r. ⌜ r ≡ capFor (policyOf policy) (ltb fi fk) higher (workIn (rest + cost) cost due) ⌝ }
-{
-    if fi < fk {
-        return 1000000;
-    }
-    if policy == 0 {
-        return window::work(inverse, rest, cost, due);
-    }
-    if higher { 1000000 } else { 0 }
-}
 
 // Adds the caps of what is summed, and takes task k itself out.
 fn add_caps<'a>(
@@ -63,7 +35,7 @@ fn add_caps<'a>(
     while i < n {
         let fi = flags::flag_at(flags, i);
         let high = rows::higher(k, i);
-        let most = cap_for(head.policy, fk, fi, high, inverse[i], rest[i], cost[i], due);
+        let most = cap_for::cap_for(head.policy, fk, fi, high, inverse[i], rest[i], cost[i], due);
         cap[i] = most + cap[i];
         i += 1;
     }
@@ -71,7 +43,7 @@ fn add_caps<'a>(
 }
 
 // How many places count: all past the last cap above 0 are left out.
-fn used_of(cap: &[u32; 32], n: usize) -> usize
+pub fn used_of(cap: &[u32; 32], n: usize) -> usize
     requires { ⌜ n ≤ 32 ⌝ }
     ensures { λ r. ⌜ Used (at (now (cap .entry))) n r ⌝ }
 {

@@ -2,7 +2,7 @@
 -- Assumes nothing.
 use Prim.Native.Nat.{ℕ, zero, suc, _+_, _≤_, _<_}
 use native.Mathlib.Omega.{arith}
-use mathlib.Core.Path.{_≡_, refl, sym, ap, _∙_}
+use mathlib.Core.Path.{_≡_, refl, ap, _∙_}
 use mathlib.Core.List.{List}
 use lib.ListN.{set, replicate}
 use Rattle.base.specs.Choice.{orElse}
@@ -29,7 +29,8 @@ use Rattle.writer.specs.declared.Written.{Written}
 use Rattle.writer.specs.Written.{WroteAs}
 use Rattle.changer.specs.declared.Changed.{Changed}
 use Rattle.changer.specs.declared.Changed.the-variants.{Refused}
-use Rattle.changer.specs.Changed.{withFlag, withFlags, changedTable, byWritten, ForcedAs, ChangedAs}
+use Rattle.changer.specs.Changed.{withFlag, withFlags, changedTable, byWritten, Changes, ForcedAs}
+use Rattle.changer.specs.Changed.{ChangedAs, flagsIn}
 
 -- The loop: after i turns the first i tasks have the flags of the records.
 pub record Flagging (t : Table) (recs : List Record) (tasks : List Task) (i : ℕ) : Type 0 where
@@ -92,29 +93,36 @@ record-flags {t} small a i l =
     (row-at noRecord (λ j. entry (ended t j) (changes (sent t) (ended t) j) (at (final t .bounds) j)) (t .n) i
     l small)
 
--- The stages: what forcing answers, and then what is read.
-module _ {t : Table} {d : Done} (legal : LegalTable t) (e : d ≡ legalDone t Force) {old : List ℕ} {at : ℕ}
-  where
-    pub forced-written : {v : Verdict} {t′ : Table} {w : Written} {r : Changed} {new : List ℕ}
-        → d .answer ≡ Given v → t′ ≡ withFlags t (λ i. recordAt (d .recs) i .flag) → WroteAs t′ old at w new
-        → r ≡ byWritten w → ForcedAs t old at r new
-    forced-written {v} {t′} {w} says is wrote q =
-        let same : t′ ≡ changedTable t =
-        is ∙ flags-same t _ (ended t) (legal .count) (record-flags (legal .count) (accepts e says))
-        in
-        let told : legalDone t Force .answer ≡ Given v = ap (λ (x : Done). x .answer) (sym e) ∙ says in
-        record {
-          answer = rw (told, ← same) (q ∙ ap byWritten (wrote .answer));
-          bytes = rw (told, ← same) (wrote .bytes);
-        }
+-- The stages: what an answer with its records writes, what forcing answers, and then what is read.
+module _ (t : Table) (d : Done) {old : List ℕ} {at : ℕ} where
+  pub done-written : {v : Verdict} {t′ : Table} {w : Written} {r : Changed} {new : List ℕ}
+      → d .answer ≡ Given v → t′ ≡ withFlags t (flagsIn d) → WroteAs t′ old at w new → r ≡ byWritten w
+      → Changes (d .answer) (withFlags t (flagsIn d)) old at r new
+  done-written says is wrote q = record {
+    answer = rw (says, ← is) (q ∙ ap byWritten (wrote .answer));
+    bytes = rw (says, ← is) (wrote .bytes);
+  }
 
-    pub forced-stopped : {why : Refusal} {passes : ℕ} → d .answer ≡ Stopped why passes
-        → ForcedAs t old at (Refused why passes) old
-    forced-stopped {why} {passes} says =
-        let told : legalDone t Force .answer ≡ Stopped why passes =
-        ap (λ (x : Done). x .answer) (sym e) ∙ says
-        in
-        record { answer = rw told; bytes = rw told }
+  pub done-stopped : {why : Refusal} {passes : ℕ} → d .answer ≡ Stopped why passes
+      → Changes (d .answer) (withFlags t (flagsIn d)) old at (Refused why passes) old
+  done-stopped says = record { answer = rw says; bytes = rw says }
+
+  pub forced-done : {r : Changed} {new : List ℕ} → LegalTable t → d ≡ legalDone t Force
+      → Changes (d .answer) (withFlags t (flagsIn d)) old at r new → ForcedAs t old at r new
+  forced-done {r} {new} legal e = go (d .answer) refl
+    where
+      go : (a : Answer) → d .answer ≡ a → Changes (d .answer) (withFlags t (flagsIn d)) old at r new
+          → ForcedAs t old at r new
+      go (Given v) says c =
+          let same : withFlags t (flagsIn d) ≡ changedTable t =
+          flags-same t _ (ended t) (legal .count) (record-flags (legal .count) (accepts e says))
+          in
+          rw (← e, ← same) c
+      go (Stopped why passes) says c =
+          record {
+            answer = rw (← e) (rw says (rw says at (c .answer)));
+            bytes = rw (← e) (rw says (rw says at (c .bytes)));
+          }
 
 module _ (text : List ℕ) {r : Reading} (e : r ≡ readOf text) where
   pub text-legal : r .answer ≡ Fine → LegalTable (r .table)

@@ -1,4 +1,4 @@
--- The table as changed, over the promise: each theorem states one sentence of the order of Wish 1.
+-- The table as changed, over the promise: each theorem states one sentence of the orders of Wishes 1 and 6.
 --
 --   the order                                                             theorem
 --   reading what it wrote gives the sent table with the flags in the
@@ -10,10 +10,13 @@
 --   a refusal writes nothing                                              refused-stays
 --   the end lies within the buffer                                        end-within
 --
--- The records are those that forcing the sent text gives. Assumes nothing.
+--   a text and the text raised have one answer, and one buffer then       changed-raised
+--   what is written stays upper case                                      written-raised
+--
+-- The last two are of Wish 6. The records are those that forcing the sent text gives. Assumes nothing.
 use Prim.Native.Nat.{ℕ, _+_, _≤_}
 use native.Mathlib.Omega.{arith}
-use mathlib.Core.Path.{_≡_, refl, sym, ap, ap₂, _∙_}
+use mathlib.Core.Path.{_≡_, refl, sym, ap, ap₂, subst, _∙_}
 use mathlib.Core.Logic.{_↔_}
 use mathlib.Core.Bool.{true}
 use mathlib.Core.List.{List}
@@ -26,10 +29,12 @@ use Rattle.table.specs.declared.Checked.{Checked}
 use Rattle.table.specs.declared.Checked.the-variants.{Fine, Refused as Faulty}
 use Rattle.table.specs.Table.{LegalTable}
 use Rattle.table.specs.Checks.{refusal}
+use Rattle.frames.specs.Digits.{raised}
 use Rattle.lines.specs.declared.Reading.{Reading}
 use Rattle.lines.specs.Reads.{accepted, readOf}
 use Rattle.lines.specs.Writes.{planText, WrittenAs}
 use Rattle.lines.proofs.Theorems.{reading-exact}
+use Rattle.lines.proofs.Letters.{raised-read}
 use Rattle.planner.specs.declared.Answer.{Answer}
 use Rattle.planner.specs.declared.Answer.the-variants.{Given, Refused as Stopped}
 use Rattle.planner.specs.declared.Done.{Done}
@@ -38,7 +43,7 @@ use Rattle.planner.specs.declared.Record.{Record}
 use Rattle.planner.specs.declared.Job.{Job}
 use Rattle.planner.specs.declared.Job.the-variants.{Test, Force}
 use Rattle.planner.specs.Answers.{given, noRecord, entry, recordAt, recordsOf, changes}
-use Rattle.planner.specs.Done.{finish, sent, final, ended, legalDone, roomDone, planDone}
+use Rattle.planner.specs.Done.{finish, sent, final, ended, legalDone, roomDone, unlessFaulty, planDone}
 use Rattle.planner.proofs.StageLaws.{tests-table, forces-table, room-enough, plan-fine, plan-faulty}
 use Rattle.writer.specs.declared.Written.{Written}
 use Rattle.writer.specs.declared.Written.the-variants.{End as Ends, Refused as Full}
@@ -78,6 +83,21 @@ pub end-within : {a : Answer} {t : Table} {old : List ℕ} {at e : ℕ} {r : Cha
     → Changes a t old at r new → r ≡ End e → e ≤ length new
 end-within {a} {t} {old} {at} {e} {r} {new} p q =
     writer.end-within (ended-by a t old at e new (sym q ∙ p .answer) (p .bytes) .wrote)
+
+-- A raised text is changed as the text is.
+pub changed-raised : (text old : List ℕ) (at : ℕ) (r : Changed) (new : List ℕ)
+    → ChangedAs (raised text) old at r new ↔ ChangedAs text old at r new
+unfolding planDone
+changed-raised text old at r new = (subst by-reading same, subst by-reading (sym same))
+  where
+    -- what a text's reading says of its change
+    by-reading : Reading → Type 0
+    by-reading x =
+        let d = unlessFaulty (x .answer) (roomDone (x .table) Force 32) in
+        Changes (d .answer) (changedTable (x .table)) old at r new
+
+    same : readOf (raised text) ≡ readOf text
+    same = raised-read text
 
 -- A text that forcing accepts: its table, and what forcing says of it.
 record Sent (text : List ℕ) : Type 0 where
@@ -149,6 +169,10 @@ module _ (text old : List ℕ) (at e : ℕ) (new : List ℕ) (p : ChangedAs text
       ∙ ap accepted
       (flags-same (sentTable text) (ended (sentTable text)) (flagsIn (forced text)) (came .read .legal .count)
       (λ i l. sym (record-flags (came .read .legal .count) (came .forces) i l)))
+
+  -- what was written is in upper case
+  pub written-raised : raised (between at e new) ≡ between at e new
+  written-raised = writer.written-raised (there .wrote)
 
   -- a legal table that was written is answered as a table is
   answered : (job : Job) → planDone (between at e new) job 32 ≡ legalDone (changedTable (sentTable text)) job

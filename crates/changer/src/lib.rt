@@ -3,8 +3,9 @@
 ghost use mathlib.Core.Path.{_≡_};
 ghost use Rattle.table.specs.Table.{LegalTable};
 ghost use Rattle.planner.specs.Answers.{recordAt};
-ghost use Rattle.changer.specs.Changed.{withFlags, byWritten, ForcedAs, ChangedAs};
+ghost use Rattle.changer.specs.Changed.{withFlags, byWritten, Changes, ForcedAs, ChangedAs, flagsIn};
 use planner::Answer;
+use planner::Done;
 use planner::Job;
 use planner::Record;
 use table::Checked;
@@ -61,12 +62,12 @@ fn changed_by(w: Written) -> Changed
     }
 }
 
-// A legal table is forced, and written as changed.
-fn write_forced(t: Table, out: &mut [u8], at: usize) -> Changed
+// A table that was forced is written with the flags of its records; a refusal writes nothing.
+pub fn write_done(t: Table, done: Done, out: &mut [u8], at: usize) -> Changed
     requires { ⌜ LegalTable t ⌝ }
-    ensures { λ r. ⌜ ForcedAs t (now (out .entry)) at r (now (out .exit)) ⌝ }
+    ensures { λ r. ⌜ Changes (done .answer) (withFlags t (flagsIn done)) (now (out .entry)) at r
+        (now (out .exit)) ⌝ }
 {
-    let done = planner::legal_done(t, Job::Force);
     let recs = done.recs;
     let said = done.answer;
     match said {
@@ -76,6 +77,14 @@ fn write_forced(t: Table, out: &mut [u8], at: usize) -> Changed
             passes: passes,
         },
     }
+}
+
+// A legal table is forced, and written as changed.
+fn write_forced(t: Table, out: &mut [u8], at: usize) -> Changed
+    requires { ⌜ LegalTable t ⌝ }
+    ensures { λ r. ⌜ ForcedAs t (now (out .entry)) at r (now (out .exit)) ⌝ }
+{
+    write_done(t, planner::legal_done(t, Job::Force), out, at)
 }
 
 // The plan of a text as changed, from the place `at` of the buffer on. It refuses as forcing does, and then

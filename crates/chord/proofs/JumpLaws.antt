@@ -154,17 +154,17 @@ module _ {g : ℕ → ℕ} {n m over all left : ℕ} (ok : Over g n m over all l
             stops = inr (omega (arith, past (over + r .low) (m - r .count) some, parts e, is .above e));
           }
 
--- growths that agree on the shares have the same jump
+-- growths that agree on the shares have grown alike, and have the same jump
+pub grown-same : {g h : ℕ → ℕ} {n : ℕ} → ((i : ℕ) → i < n → g i ≡ h i) → (e : ℕ) → grown g n e ≡ grown h n e
+unfolding grown
+grown-same {g} {h} {n} same e =
+    sum-same (λ i. min e (g i)) (λ i. min e (h i)) n (λ i lt. ap (min e) (same i lt))
+
 pub jumped-same : {g h : ℕ → ℕ} {n m over left r : ℕ} → ((i : ℕ) → i < n → g i ≡ h i)
     → Jumped g n m over left r → Jumped h n m over left r
 jumped-same {g} {h} {n} {m} {over} {left} {r} same a = record {
   up = a .up;
   room = a .room;
-  fails = λ e lt. omega (arith, a .fails e lt, grown-same e);
-  stops = ⊎-elim inl (λ holds. inr (omega (arith, grown-same r))) (a .stops);
+  fails = λ e lt. omega (arith, a .fails e lt, grown-same same e);
+  stops = ⊎-elim inl (λ holds. inr (omega (arith, grown-same same r))) (a .stops);
 }
-  where
-    grown-same : (e : ℕ) → grown g n e ≡ grown h n e
-    grown-same e =
-        unfold grown in
-        sum-same (λ i. min e (g i)) (λ i. min e (h i)) n (λ i lt. ap (min e) (same i lt))

@@ -1,20 +1,24 @@
--- The work behind demand 1: every call has exactly one answer, by what it sends or by its first fault.
+-- The work behind demand 1: every call has exactly one answer, by what it sends or by its first fault; a plan
+-- has the same in either case of its letters.
 -- Assumes nothing.
 use Prim.Native.Nat.{ℕ, _≤_, _<_}
 use mathlib.Core.Path.{_≡_, refl, sym, ap, subst, _∙_}
+use mathlib.Core.Logic.{_↔_}
 use mathlib.Core.List.{List}
 use lib.ListN.{length}
 use Rattle.table.specs.declared.Table.{Table}
 use Rattle.table.specs.Table.{LegalTable}
 use Rattle.table.specs.Faults.{Within}
+use Rattle.frames.specs.Digits.{raised}
 use Rattle.lines.specs.Writes.{ZerosPast, planText}
 use Rattle.lines.proofs.Theorems.{reading-exact, text-accepted}
+use Rattle.lines.proofs.Letters.{raised-read}
 use Rattle.planner.specs.declared.Answer.{Answer}
 use Rattle.planner.specs.declared.Job.{Job}
 use Rattle.planner.specs.declared.Record.{Record}
 use Rattle.planner.specs.Answers.{refused, recordAt}
-use Rattle.planner.specs.Done.{listAfter}
-use Rattle.planner.specs.Calls.{Call, plan, Answered, Sends, by-text, Faulty}
+use Rattle.planner.specs.Done.{planDone, listAfter}
+use Rattle.planner.specs.Calls.{Call, plan, Allows, Answered, Sends, by-text, Faulty}
 use Rattle.planner.specs.Calls.{doneOf}
 use Rattle.planner.specs.Ways.{Verdicts, Way, faulty, full}
 use Rattle.planner.proofs.ValueLaws as values
@@ -40,6 +44,18 @@ verdict {t = t} {old = old} s {job} h =
 -- every legal table can be sent as a text
 pub legal-sent : (t : Table) → LegalTable t → ZerosPast t → Sends (plan (planText t)) t
 legal-sent t legal zeros = by-text (reading-exact (planText t) t .0 (text-accepted t legal zeros))
+
+-- a text that is raised is answered as the text is
+raised-done : (text : List ℕ) (job : Job) (room : ℕ)
+    → planDone (raised text) job room ≡ planDone text job room
+unfolding planDone
+raised-done text job room = rw (raised-read text)
+
+pub raised-answered : (text : List ℕ) (job : Job) (old : List Record) (a : Answer) (new : List Record)
+    → Answered (plan (raised text)) job old a new ↔ Answered (plan text) job old a new
+raised-answered text job old a new =
+    let same = raised-done text job (length old) in
+    (subst (λ d. Allows d old a new) same, subst (λ d. Allows d old a new) (sym same))
 
 module _ (c : Call) (job : Job) (old : List Record) {a : Answer} {new : List Record}
     (h : Answered c job old a new) where

@@ -1,7 +1,7 @@
 -- The front page: the three demands of the order, what a yes means, and document 01's own tests of a planner,
 -- each sentence beside its theorem. What is proved here is proved of every result that the promise `Answered`
 -- of run_plan and run_tasks allows. The words: specs/Words, specs/Results, specs/Algorithm2. Assumes nothing.
-use Prim.Native.Nat.{ℕ, _≤_, _<_}
+use Prim.Native.Nat.{ℕ, _+_, _≤_, _<_}
 use mathlib.Core.Path.{_≡_}
 use mathlib.Core.Bool.{true, false}
 use mathlib.Core.Logic.{_⊎_, _↔_}
@@ -21,8 +21,15 @@ use Rattle.table.specs.Checks.{faulty}
 use Rattle.table.specs.Faults.{Within}
 use Rattle.table.specs.Load.{Covers}
 use Rattle.table.proofs.LoadLaws as loads
-use Rattle.lines.specs.Reads.{numberOf, placeOf}
-use Rattle.lines.specs.Writes.{ZerosPast, planText}
+use Rattle.frames.specs.Digits.{upperOf, lower, digitOf, raise, raised, digitAt}
+use Rattle.frames.proofs.DigitLaws as digits
+use Rattle.lines.specs.Form.{form1}
+use Rattle.lines.specs.Fields.{taskText}
+use Rattle.lines.specs.Reads.{numberOf, placeOf, accepted, refused as unread, readOf}
+use Rattle.lines.specs.Writes.{ZerosPast, WrittenAs, planText}
+use Rattle.lines.specs.Wrong.{RightUpTo, textCount}
+use Rattle.lines.proofs.Theorems as lines
+use Rattle.lines.proofs.Letters as letters
 use Rattle.planner.specs.declared.Answer.{Answer}
 use Rattle.planner.specs.declared.Job.{Job}
 use Rattle.planner.specs.declared.Job.the-variants.{Test, Force}
@@ -188,6 +195,46 @@ same-bound t u k legal d = lower.same-bound d legal
 -- smaller load would do.
 pub never-flatters : (c : Call) (t : Table) → Sends c t → Covers t
 never-flatters c t s = loads.loads-cover t (calls.sends-legal s)
+
+-- DOCUMENT 02, WISH 6. Reading accepts a text exactly if the text with its letters a to f raised is the
+-- written form of a legal table, and returns that table.
+pub read-exactly : (text : List ℕ) (t : Table) → (readOf text ≡ accepted t) ↔ WrittenAs text t
+read-exactly = lines.reading-exact
+
+-- Two accepted texts of one table have the same raised text.
+pub one-raised-text : (text other : List ℕ) (t : Table) → readOf text ≡ accepted t → readOf other ≡ accepted t
+    → raised text ≡ raised other
+one-raised-text = letters.raised-only
+
+-- Reading a text and reading it raised give one answer, refusals, numbers and places included; so does every
+-- call on it.
+pub raised-read : (text : List ℕ) → readOf (raised text) ≡ readOf text
+raised-read = letters.raised-read
+
+pub raised-answered : (text : List ℕ) (job : Job) (old : List Record) (a : Answer) (new : List Record)
+    → Answered (plan (raised text)) job old a new ↔ Answered (plan text) job old a new
+raised-answered = one.raised-answered
+
+-- The six letters have the values of A to F, and are raised to them; every other byte stays what it was, by
+-- document 01's rule. The bytes next to the letters are no digits, and a byte that is none is 2 where one is
+-- due.
+pub six-letters : (d : ℕ) → d < 6 → (digitOf (97 + d) ≡ 10 + d) × (raise (97 + d) ≡ 65 + d)
+six-letters = digits.six-letters
+
+pub other-bytes-stay : (b : ℕ) → lower b ≡ false → (digitOf b ≡ upperOf b) × (raise b ≡ b)
+other-bytes-stay = digits.others-stay
+
+pub next-bytes : (digitOf 64 ≡ 255) × (digitOf 71 ≡ 255) × (digitOf 96 ≡ 255) × (digitOf 103 ≡ 255)
+next-bytes = digits.next-bytes
+
+pub head-two : (text : List ℕ) (i : ℕ) → i < 10 → 10 < length text → digitAt text i ≡ 255
+    → readOf text ≡ unread 2 1
+head-two = letters.head-two
+
+pub task-two : (text : List ℕ) (k i : ℕ) → RightUpTo form1 text k → k < textCount text → i < 30
+    → 30 < length (taskText form1 text k) → digitAt (taskText form1 text k) i ≡ 255
+    → readOf text ≡ unread 2 (k + 2)
+task-two = letters.task-two
 
 -- The marked cases, by a single statement over one list of them; none of the wrong ones is right.
 pub marked : T (every cases)

@@ -22,9 +22,9 @@ use Rattle.flags.specs.Flags.{changed}
 use Rattle.lines.specs.Writes.{planText, ZerosPast}
 use Rattle.lines.proofs.Theorems.{text-accepted, reading-exact}
 use Rattle.easier.specs.TableWords.{Accepted}
-use Rattle.easier.specs.MayHurt.{Bare}
+use Rattle.may_hurt.specs.MayHurt.{Bare}
 use Rattle.easier.proofs.TableLaws.{table-eased}
-use Rattle.easier.proofs.Refuted.{longer-refused, shorter-refused, passes-rise, bounds-rise, either-way}
+use Rattle.may_hurt.proofs.Refuted.{longer-refused, shorter-refused, passes-rise, bounds-rise, either-way}
 use Rattle.planner.specs.declared.Done.{Done}
 use Rattle.planner.specs.declared.Job.the-variants.{Force}
 use Rattle.planner.specs.declared.Record.{Record}

@@ -34,7 +34,7 @@ use Rattle.claims.proofs.Demand1.{verdict}
 use Rattle.claims.proofs.Demand2.{tested-flag, tested-bound, forced-bound}
 use Rattle.claims.proofs.Demand3.{passes-same, given-out}
 
-legal-system : {t : Table} → LegalTable t → Legal (systemOf t)
+pub legal-system : {t : Table} → LegalTable t → Legal (systemOf t)
 legal-system legal = record {
   cores = legal .some-core;
   time = λ i l. legal .each i l .some;
@@ -43,7 +43,7 @@ legal-system legal = record {
 }
 
 -- a promise speaks of the numbers of the table's own tasks alone
-promise-same : (s : System) (fl R R′ : ℕ → ℕ) → ((k : ℕ) → k < s .count → R′ k ≡ R k) → Promise s fl R
+pub promise-same : (s : System) (fl R R′ : ℕ → ℕ) → ((k : ℕ) → k < s .count → R′ k ≡ R k) → Promise s fl R
     → Promise s fl R′
 promise-same s fl R R′ same p x rules k a l = rw (same k l) (p x rules k a l)
 

@@ -24,7 +24,7 @@ use Rattle.table.specs.declared.Task.{Task}
 use Rattle.table.specs.declared.Table.{Table}
 use Rattle.table.specs.Table.{taskAt, policyOf}
 use Rattle.easier.specs.TableWords.{EasedTable, Redated}
-use Rattle.easier.specs.MayHurt.{Longer, task}
+use Rattle.may_hurt.specs.MayHurt.{Longer, task}
 use Rattle.planner.specs.declared.Answer.{Answer}
 use Rattle.planner.specs.declared.Job.{Job}
 use Rattle.planner.specs.declared.Job.the-variants.{Test, Force}

@@ -1,11 +1,14 @@
 -- The third front page: document 02's Wish 4, the second edition of the test, each sentence beside its
--- theorem. It speaks of the model: `test2 s fs` is the test and `force2 s fs` the forcing of the table s
--- with the flags fs, and `Slackless s` says that s is a table of edition 1. Assumes nothing.
+-- theorem. First of the model: `test2 s fs` is the test and `force2 s fs` the forcing of the table s with the
+-- flags fs, and `Slackless s` says that s is a table of edition 1. Then of every result that the promise
+-- `AnsweredIn` of run_plan_in and run_tasks_in allows. Assumes nothing.
 use Prim.Native.Nat.{ℕ, suc, _+_, _*_, _-_, _/_, _%_, _≤_, _<_, min}
 use mathlib.Core.Path.{_≡_}
+use mathlib.Core.Bool.{true}
 use mathlib.Core.Logic.{_↔_}
 use mathlib.Core.List.{List}
 use lib.Dec.{T}
+use lib.ListN.{length}
 use Rattle.base.specs.Sums.{sumTo}
 use Rattle.base.specs.Least.{NoWorse}
 use Rattle.base.specs.Rows.{at}
@@ -21,6 +24,21 @@ use Rattle.rounds.specs.Words.{boundIn, slacksAt, Rests, Below, Passes2}
 use Rattle.rounds.specs.Said.{RoundsAre, TestedTo, ForcedTo, Ends}
 use Rattle.rounds.specs.Cases.{cases, every}
 use Rattle.rounds.specs.Refuted.{FifteenFinal, NoMorePasses, LemmaSix2, Independent2, NoDifferences}
+use Rattle.table.specs.declared.Table.{Table}
+use Rattle.table.specs.Table.{systemOf}
+use Rattle.frames.specs.Digits.{raised}
+use Rattle.planner.specs.declared.Answer.{Answer}
+use Rattle.planner.specs.declared.Job.{Job}
+use Rattle.planner.specs.declared.Job.the-variants.{Test, Force}
+use Rattle.planner.specs.declared.Record.{Record}
+use Rattle.planner.specs.Answers.{given, refused, recordAt}
+use Rattle.planner.specs.Calls.{Call, plan, Answered, Sends}
+use Rattle.editions.specs.declared.Edition.{Edition}
+use Rattle.editions.specs.declared.Edition.the-variants.{First, Second}
+use Rattle.editions.specs.Editions.{AnsweredIn}
+use Rattle.editions.specs.Ways.{SecondWay, testRecord2, forcedRecord2}
+use Rattle.claims.specs.Words.{Asks, flagsIn, boundsIn}
+use Rattle.claims.specs.Results.{Accepts}
 use Rattle.rounds.proofs.TestLaws as tests
 use Rattle.rounds.proofs.SaidLaws as said
 use Rattle.rounds.proofs.ForcingLaws as forcing
@@ -29,6 +47,8 @@ use Rattle.rounds.proofs.ForcedLaws as passes
 use Rattle.rounds.proofs.Refuted as refuted
 use Rattle.rounds.proofs.Cases as sums
 use Rattle.rounds_kept.proofs.Sound2 as kept
+use Rattle.edition_entries.proofs.Unique as entries
+use Rattle.claims_rounds.proofs.Promised as entry
 
 -- WISH 4, THE FORMULAS. "W uses D_i - S_i - C_i for D_i - C_i in both places, and E uses max(0, D_k mod T_i
 -- - S_i) for D_k mod T_i."
@@ -195,3 +215,74 @@ not-dropped = refuted.not-dropped
 -- definitions.
 pub marked : T (every cases)
 marked = sums.marked
+
+-- THE ENTRIES. "Keep edition 1 as it is; add edition 2; the caller picks one of the two." Every call gets an
+-- answer, a round count and a list, under either edition, and exactly one of each;
+pub one-result : (e : Edition) (c : Call) (job : Job) (old : List Record)
+    → (a : Answer) × ((n : ℕ) × ((new : List Record) × AnsweredIn e c job old a n new))
+one-result = entry.answered-one
+
+pub one-result-only : (e : Edition) (c : Call) (job : Job) (old : List Record) (a a′ : Answer) (n n′ : ℕ)
+    (new new′ : List Record) → AnsweredIn e c job old a n new → AnsweredIn e c job old a′ n′ new′
+    → (a ≡ a′) × (n ≡ n′) × (new ≡ new′)
+one-result-only e c job old a a′ n n′ new new′ = entries.answered-in-only e c job old
+
+-- a text and the text with its letters raised get the same (Wish 6);
+pub raised-answered : (e : Edition) (text : List ℕ) (job : Job) (old : List Record) (a : Answer) (n : ℕ)
+    (new : List Record)
+    → AnsweredIn e (plan (raised text)) job old a n new ↔ AnsweredIn e (plan text) job old a n new
+raised-answered = entry.raised-answered
+
+-- under the first it is what it was, without rounds;
+pub first-as-before : (c : Call) (job : Job) (old : List Record) (a : Answer) (n : ℕ) (new : List Record)
+    → (AnsweredIn First c job old a n new) ↔ ((Answered c job old a new) × (n ≡ 0))
+first-as-before = entry.first-as-before
+
+-- under the second it is document 02's: refusals, 13 before any test; a test's yes or no with its rounds;
+-- forcing that accepts, with the rounds of its last test; or 15, its place and passes, without rounds.
+pub second-exactly : (c : Call) (job : Job) (old : List Record) (a : Answer) (n : ℕ)
+    → ((new : List Record) × AnsweredIn Second c job old a n new) ↔ SecondWay c (length old) job a n
+second-exactly = entry.second-exactly
+
+-- "Round count 0 in every refusal", which leaves the caller's list as it was; what is past the last task
+-- stays in any case;
+pub second-refusal : (c : Call) (job : Job) (old : List Record) (number place passes n : ℕ)
+    (new : List Record) → AnsweredIn Second c job old (refused number place passes) n new
+    → (new ≡ old) × (n ≡ 0)
+second-refusal c job old number place passes n new = entry.refusal-keeps-2 c job old
+
+pub second-rest : (c : Call) (t : Table) → Sends c t → (job : Job) (old : List Record) (a : Answer) (n : ℕ)
+    (new : List Record) → AnsweredIn Second c job old a n new
+    → (length new ≡ length old) × ((i : ℕ) → t .n ≤ i → recordAt new i ≡ recordAt old i)
+second-rest c t s job old a n new h = entry.rest-kept-2 c job old h s
+
+-- and the round count fits 32 bits.
+pub second-rounds : (c : Call) (job : Job) (old : List Record) (a : Answer) (n : ℕ) (new : List Record)
+    → AnsweredIn Second c job old a n new → n ≤ 31999969
+second-rounds c job old a n new = entry.rounds-given-few c job old
+
+-- Each task's record: after a test its flag as given, no mark, its bound in the last round;
+pub second-tested : (c : Call) (t : Table) (old : List Record) → Asks c t old → (a : Answer) (n : ℕ)
+    (new : List Record) → AnsweredIn Second c Test old a n new → (k : ℕ) → k < t .n
+    → recordAt new k ≡ testRecord2 t k
+second-tested c t old s a n new = entry.tested-records s
+
+-- after forcing that accepts its flag at the end, a mark if that is not the given one, its bound there.
+pub second-forced : (c : Call) (t : Table) (old : List Record) → Asks c t old → (f p n : ℕ)
+    (new : List Record) → AnsweredIn Second c Force old (given true f p) n new → (k : ℕ) → k < t .n
+    → recordAt new k ≡ forcedRecord2 t k
+second-forced c t old s f p n new = entry.forced-records s
+
+-- A yes under edition 2: in every schedule by the rules, of the table with the flags in the records, each job
+-- is done within the bound in its record, and so by its deadline.
+pub second-means : (c : Call) (t : Table) (old : List Record) → Asks c t old → (job : Job) (f p n : ℕ)
+    (new : List Record) → AnsweredIn Second c job old (given true f p) n new
+    → Promise (systemOf t) (flagsIn new) (boundsIn new)
+second-means c t old s job f p n new = entry.second-means s job
+
+-- What edition 1's forcing accepts edition 2's accepts, "which forces no task beyond those".
+pub second-accepts : (c : Call) (t : Table) (old : List Record) → Asks c t old → (f p : ℕ)
+    (new : List Record) → Answered c Force old (given true f p) new → (a : Answer) (n : ℕ)
+    (new′ : List Record) → AnsweredIn Second c Force old a n new′
+    → (Accepts a) × ((k : ℕ) → k < t .n → flagsIn new k ≤ flagsIn new′ k)
+second-accepts c t old s f p new h a n new′ = entry.accepts-as-first s h

@@ -1,6 +1,6 @@
--- The second front page: document 02's Wish 1, each sentence beside its theorem. What is proved here is
--- proved of every result that the promises of the writers allow: `WroteAs` of a table, `ChangedAs` of a plan
--- text as changed; and of the numbers that C and Rust are told. Assumes nothing.
+-- The second front page: document 02's Wish 1, with Wish 6's upper case, each sentence beside its theorem.
+-- What is proved here is proved of every result that the promises of the writers allow: `WroteAs` of a table,
+-- `ChangedAs` of a plan text as changed; and of the numbers that C and Rust are told. Assumes nothing.
 use Prim.Native.Nat.{ℕ, _+_, _*_, _≤_}
 use mathlib.Core.Path.{_≡_}
 use mathlib.Core.Bool.{true}
@@ -62,10 +62,15 @@ pub written-read : (t : Table) (old : List ℕ) (start end : ℕ) (new : List �
     → WroteAs t old start (End end) new → readOf (between start end new) ≡ accepted (cleared t)
 written-read t old start end new = writer.read-back
 
--- Writing what was read gives the same bytes.
+-- Writing what was read gives the raised text (Wish 6): the same bytes, once letters are raised.
 pub read-written : (text : List ℕ) (t : Table) (old : List ℕ) (start end : ℕ) (new : List ℕ)
     → readOf text ≡ accepted t → WroteAs t old start (End end) new → between start end new ≡ raised text
 read-written text t old start end new q w = writer.write-back w text q
+
+-- The writer stays with upper case (Wish 6): no letter of what it writes is there to be raised.
+pub written-upper : (t : Table) (old : List ℕ) (start end : ℕ) (new : List ℕ)
+    → WroteAs t old start (End end) new → raised (between start end new) ≡ between start end new
+written-upper t old start end new = writer.written-raised
 
 -- THE TABLE AS CHANGED. Reading what it wrote gives the sent table with the flags in the records.
 pub changed-read : (text old : List ℕ) (start end : ℕ) (new : List ℕ)
@@ -97,6 +102,15 @@ pub changed-again : (text old : List ℕ) (start end : ℕ) (new : List ℕ)
     → (r ≡ Ends (start′ + length (between start end new)))
     × (between start′ (start′ + length (between start end new)) new′ ≡ between start end new)
 changed-again = changer.again-same
+
+-- A raised text is changed as the text is, refusals included; what is written stays upper case (Wish 6).
+pub changed-raised : (text old : List ℕ) (start : ℕ) (r : Changed) (new : List ℕ)
+    → ChangedAs (raised text) old start r new ↔ ChangedAs text old start r new
+changed-raised = changer.changed-raised
+
+pub changed-upper : (text old : List ℕ) (start end : ℕ) (new : List ℕ)
+    → ChangedAs text old start (Ends end) new → raised (between start end new) ≡ between start end new
+changed-upper = changer.written-raised
 
 -- It refuses as forcing does, with its passes, and writes nothing.
 pub changed-refused : (text old : List ℕ) (start : ℕ) (r : Changed) (new : List ℕ)

@@ -1,12 +1,10 @@
 -- The code of each case of an answer, and from the answer by value to the promises.
 -- Assumes nothing.
-use Prim.Native.Nat.{ℕ, zero, suc, _+_, _*_, _/_, _≤_}
+use Prim.Native.Nat.{ℕ, zero, suc, _+_, _*_, _≤_}
 use native.Mathlib.Omega.{arith}
-use mathlib.Core.Path.{_≡_, refl}
+use mathlib.Core.Path.{_≡_, refl, ap, subst, _∙_}
 use mathlib.Core.Bool.{Bool, true, false}
 use mathlib.Core.List.{List}
-use lib.ListN.{length}
-use Rattle.table.specs.declared.Task.{Task}
 use Rattle.table.specs.declared.Refusal.{Refusal}
 use Rattle.planner.specs.declared.Verdict.{Verdict}
 use Rattle.planner.specs.declared.Done.{Done}
@@ -14,8 +12,8 @@ use Rattle.planner.specs.declared.Job.{Job}
 use Rattle.planner.specs.declared.Job.the-variants.{Force}
 use Rattle.planner.specs.declared.Answer.{Answer}
 use Rattle.planner.specs.declared.Answer.the-variants.{Given, Refused}
-use Rattle.planner.specs.Done.{planDone, listDone}
-use Rattle.flat.specs.Flat.{countIn, tasksIn}
+use Rattle.asked.specs.declared.Asked.{Asked}
+use Rattle.asked.specs.Asked.{AskedAs, PlanAsked, TasksAsked}
 use Rattle.coded.specs.Coded.{jobOf, yesBit, codeOf, Coded, PlanCoded, TasksCoded}
 
 pub job-force : (j : ℕ) → (j ≡ 0 → ⊥) → Force ≡ jobOf j
@@ -37,13 +35,21 @@ pub refused-code : {a : Answer} {why : Refusal} {p : ℕ} → a ≡ Refused why 
 unfolding yesBit
 refused-code e = rw e (omega arith)
 
--- from the answer by value to the promises
-pub plan-coded : (job : ℕ) (text old : List ℕ) (r : ℕ) (new : List ℕ) (j : Job) (d : Done) → j ≡ jobOf job
-    → d ≡ planDone text j (length old / 3) → Coded d old r new → PlanCoded job text old r new
-plan-coded job text old r new j d ej ed h = rw (ed, ej) at h
+-- from the answer in parts to the promises
+pub asked-coded : {d : Done} {old : List ℕ} {a : Asked} {r : ℕ} {new : List ℕ} → AskedAs d old a new
+    → r ≡ codeOf (a .answer) → Coded d old r new
+asked-coded asked e = record {
+  answer = e ∙ ap (λ (x : Answer). codeOf x) (asked .answer);
+  records = asked .records;
+}
 
-pub tasks-coded : (job cores policy : ℕ) (xs old : List ℕ) (r : ℕ) (new : List ℕ) (n : ℕ) (ts : List Task)
-    (j : Job) (d : Done) → n ≡ countIn (length xs) → ts ≡ tasksIn xs → j ≡ jobOf job
-    → d ≡ listDone cores policy n ts j (length old / 3) → Coded d old r new
+pub plan-coded : (job : ℕ) (text old : List ℕ) (r : ℕ) (new : List ℕ) (j : Job) (a : Asked) → j ≡ jobOf job
+    → PlanAsked j text old a new → r ≡ codeOf (a .answer) → PlanCoded job text old r new
+plan-coded job text old r new j a ej asked e =
+    asked-coded (subst (λ (x : Job). PlanAsked x text old a new) ej asked) e
+
+pub tasks-coded : (job cores policy : ℕ) (xs old : List ℕ) (r : ℕ) (new : List ℕ) (j : Job) (a : Asked)
+    → j ≡ jobOf job → TasksAsked j cores policy xs old a new → r ≡ codeOf (a .answer)
     → TasksCoded job cores policy xs old r new
-tasks-coded job cores policy xs old r new n ts j d en et ej ed h = rw (ed, en, et, ej) at h
+tasks-coded job cores policy xs old r new j a ej asked e =
+    asked-coded (subst (λ (x : Job). TasksAsked x cores policy xs old a new) ej asked) e

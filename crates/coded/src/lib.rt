@@ -1,11 +1,8 @@
 // The first two calls for C and Rust: the job is a number, and the answer is one number.
 ghost use mathlib.Core.Path.{_≡_};
 ghost use Prim.Native.Nat.{_+_, _*_};
-ghost use lib.ListN.{length};
-ghost use Rattle.flat.specs.Flat.{Fits};
-ghost use Rattle.coded.specs.Coded.{jobOf, yesBit, codeOf, Coded, PlanCoded, TasksCoded};
+ghost use Rattle.coded.specs.Coded.{jobOf, yesBit, codeOf, PlanCoded, TasksCoded};
 use planner::Answer;
-use planner::Done;
 use planner::Job;
 
 // 0 asks for the test, every other number for forcing.
@@ -36,24 +33,13 @@ fn code_of(answer: Answer) -> u64
     }
 }
 
-// The answer in its one number, and its records to the front of the caller's numbers.
-fn put_done(records: &mut [u32], d: Done) -> u64
-    requires { ⌜ Fits d (length (now records)) ⌝ }
-    ensures { λ r. ⌜ Coded d (now (records .entry)) r (now (records .exit)) ⌝ }
-{
-    let answer = d.answer;
-    let code = code_of(answer);
-    flat::put_records(records, d);
-    code
-}
-
 // The answer to a plan text.
 pub fn code_plan(job: u32, text: &[u8], records: &mut [u32]) -> u64
     ensures { λ r. ⌜ PlanCoded job (now (text .entry)) (now (records .entry)) r (now (records .exit)) ⌝ }
 {
-    let room = records.len() / 3;
-    let d = planner::plan_done(text, job_of(job), room);
-    put_done(records, d)
+    let asked = asked::plan_asked(job_of(job), text, records);
+    let answer = asked.answer;
+    code_of(answer)
 }
 
 // The answer to cores, policy and a flat table.
@@ -61,9 +47,7 @@ pub fn code_tasks(job: u32, cores: u32, policy: u32, tasks: &[u32], records: &mu
     ensures { λ r. ⌜ TasksCoded job cores policy (now (tasks .entry)) (now (records .entry)) r
         (now (records .exit)) ⌝ }
 {
-    let room = records.len() / 3;
-    let n = flat::count_in(tasks.len());
-    let list = flat::tasks_in(tasks);
-    let d = planner::list_done(cores, policy, n, list, job_of(job), room);
-    put_done(records, d)
+    let asked = asked::tasks_asked(job_of(job), cores, policy, tasks, records);
+    let answer = asked.answer;
+    code_of(answer)
 }

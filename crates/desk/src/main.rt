@@ -1,5 +1,5 @@
 // The desk: what is asked of a plan, or of a table that people typed, with read and write alone. Document 02,
-// Wish 1.
+// Wishes 1, 4 and 5.
 //
 // Standard input: one line that says what is asked, and then the bytes.
 //
@@ -8,11 +8,17 @@
 //                         task 1 P bound 4 deadline 12 load 334
 //                         task 2 P none deadline 18 load 375
 //                         total load 709 answer no
+//   cores   a plan      the fewest cores, and the listing with them (crate fewest_listing): a line, as
+//                         fewest 2
+//                       and then what the plan printer writes of the plan with 2 in its head
 //   apply   a plan      the plan as changed by forcing (crate changer), in plan lines
+//   list2, test2, apply2
+//           a plan      under edition 2: its listing after forcing, its listing as sent, the plan as changed
 //   show    a plan      its numbers: a line "cores policy n", then a line "flag T C D" for each task
 //   make    numbers     such numbers as plan lines (crate writer)
 //
-// A refusal is one line, as "refused 9 place 3"; for 14 the passes follow, as "refused 14 place 1 passes 2".
+// A refusal is one line, as "refused 9 place 3"; for 14 and 15 the passes follow, as "refused 14 place 1
+// passes 2".
 // Under make the place is the task's number, and 0 for 5, 6, 7.
 //
 // The numbers of make are decimal, parted by spaces and 0A: cores, policy, n, and then four numbers for each
@@ -22,6 +28,7 @@
 // Of a plan at most the first 1,004 bytes count, as for the plan printer, and so many always fit. What is no
 // such input gives nothing on standard output, and a line on standard error.
 mod numbers;
+mod rounds;
 mod show;
 
 ghost use Prim.Native.Nat.{_≤_};
@@ -60,7 +67,7 @@ fn read_input(text: &mut [u8]) -> Input
 // A refusal's line.
 fn refuse(number: u32, place: u32, passes: u32) {
     let mut out = io::buffer();
-    let n = listing_lines::put_refusal(&mut out, 0, number, place, passes);
+    let n = refusal_line::put_refusal(&mut out, 0, number, place, passes);
     io::write_all(1, &out[..n]);
 }
 
@@ -68,6 +75,13 @@ fn refuse(number: u32, place: u32, passes: u32) {
 fn test(text: &[u8]) {
     let mut out = io::buffer();
     let n = test_listing::write_test(text, &mut out);
+    io::write_all(1, &out[..n]);
+}
+
+// The fewest cores, and the listing with them.
+fn cores(text: &[u8]) {
+    let mut out = io::buffer();
+    let n = fewest_listing::write_fewest(text, &mut out);
     io::write_all(1, &out[..n]);
 }
 
@@ -139,7 +153,7 @@ fn answer(s: &[u8], n: usize)
     if n == s.len() {
         io::write_all(
             2,
-            b"desk: the first line says what is asked: test, apply, show or make\n",
+            b"desk: the first line is none of test, cores, apply, show, make, list2, test2 and apply2\n",
         );
         return;
     }
@@ -148,8 +162,24 @@ fn answer(s: &[u8], n: usize)
         test(&s[rest..]);
         return;
     }
+    if is_word(s, n, b"cores") {
+        cores(&s[rest..]);
+        return;
+    }
     if is_word(s, n, b"apply") {
         apply(&s[rest..]);
+        return;
+    }
+    if is_word(s, n, b"list2") {
+        rounds::list(&s[rest..]);
+        return;
+    }
+    if is_word(s, n, b"test2") {
+        rounds::test(&s[rest..]);
+        return;
+    }
+    if is_word(s, n, b"apply2") {
+        rounds::apply(&s[rest..]);
         return;
     }
     if is_word(s, n, b"show") {
@@ -162,7 +192,7 @@ fn answer(s: &[u8], n: usize)
     }
     io::write_all(
         2,
-        b"desk: the first line says what is asked: test, apply, show or make\n",
+        b"desk: the first line is none of test, cores, apply, show, make, list2, test2 and apply2\n",
     );
 }
 

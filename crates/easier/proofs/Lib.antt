@@ -6,4 +6,3 @@ pub mod NeverHurts
 pub mod ShorterLaws
 pub mod EdfLaws
 pub mod TableLaws
-pub mod Refuted

@@ -1,4 +1,3 @@
 pub mod Eased
 pub mod NeverHurts
 pub mod TableWords
-pub mod MayHurt

@@ -38,7 +38,7 @@ fn answer_of(d: Done) -> Answer
 }
 
 // The records of an answer go into the first places of the caller's list, and the rest of the list stays.
-fn put_done(records: &mut [Record], d: Done) -> Answer
+pub fn put_done(records: &mut [Record], d: Done) -> Answer
     requires { ⌜ (d .count ≤ length (now records)) × (d .count ≤ 32) ⌝ }
     ensures { λ r. ⌜ (r ≡ d .answer) × (now (records .exit) ≡ listAfter d (now (records .entry))) ⌝ }
 {
@@ -75,7 +75,7 @@ fn capped(n: usize) -> usize
 }
 
 // The first 32 tasks of the caller's list, with zeros past its end.
-fn load_tasks(tasks: &[Task]) -> [Task; 32]
+pub fn load_tasks(tasks: &[Task]) -> [Task; 32]
     ensures { λ r. ⌜ r ≡ loaded (now (tasks .entry)) ⌝ }
 {
     let n = capped(tasks.len());

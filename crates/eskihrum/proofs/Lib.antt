@@ -1,2 +1,4 @@
+pub mod FewestUnique
 pub mod ToldUnique
+pub mod SecondUnique
 pub mod Unique

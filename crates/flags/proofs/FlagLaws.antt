@@ -2,36 +2,29 @@
 -- first failing place over all 32 places are those over the first n, and one pass of forcing over what is
 -- held is one pass over what it was made from.
 -- Assumes nothing.
-use Prim.Native.Nat.{ℕ, zero, suc, _+_, _-_, _≤_, _<_}
+use Prim.Native.Nat.{ℕ, zero, suc, _+_, _-_, _≤_, _<_, min}
 use native.Mathlib.Omega.{arith}
 use mathlib.Core.Path.{_≡_, refl, sym, ap, ap₂, _∙_}
 use mathlib.Core.Bool.{Bool, true, false}
-use mathlib.Core.List.{List, [], _∷_}
 use mathlib.Core.Logic.{_⊎_, ⊎-elim}
-use lib.ListN.{getD, length}
 use lib.Dec.{eqb}
-use borrow.Author.Tests.{eq-eqb, ne-eqb}
+use borrow.Author.Tests.{eq-eqb, ne-eqb, eqb-true, eqb-false}
 use Rattle.base.specs.Choice.{pick}
 use Rattle.base.specs.Sums.{sumTo}
 use Rattle.base.specs.Least.{firstOf}
-use Rattle.base.specs.Rows.{at, row}
 use Rattle.base.proofs.OrderLaws.{le-or-lt}
-use Rattle.base.proofs.SumLaws.{sum-start, sum-step, sum-end, sum-same}
+use Rattle.base.proofs.SumLaws.{sum-same}
 use Rattle.base.proofs.FirstLaws.{First, first-is, first-none, first-cases, first-same}
-use Rattle.base.proofs.RowLaws.{row-length, row-at, row-past, row-is, row-same, fill-end}
 use Rattle.model.specs.Forcing.{lacks}
 use Rattle.flags.specs.declared.Flags.{Flags}
 use Rattle.flags.specs.Flags.{asFlag, flagIn, held, changed}
+use Rattle.flags.specs.Words.{isZero, bitsTo, wordOf}
+use Rattle.flags.proofs.WordLaws.{clear-small, word-clear, word-past, word-same}
 
 -- a number as a flag
 pub zero-flag : (x : ℕ) → x ≡ 0 → 0 ≡ asFlag x
 unfolding asFlag
 zero-flag x e = rw e
-
-pub some-flag : (x : ℕ) → (x ≡ 0 → ⊥) → 1 ≡ asFlag x
-unfolding asFlag
-some-flag zero some = absurd (some refl)
-some-flag (suc x) some = refl
 
 as-small : (x : ℕ) → asFlag x ≤ 1
 unfolding asFlag
@@ -50,6 +43,29 @@ unfolding asFlag
 as-zero zero = refl
 as-zero (suc x) = ne-eqb 1 0 (λ e. omega arith) ∙ sym (ne-eqb (suc x) 0 (λ e. omega arith))
 
+-- what a word reads, and which places it marks
+zero-as : (x : ℕ) → 1 - isZero x ≡ asFlag x
+unfolding isZero asFlag
+zero-as zero = refl
+zero-as (suc x) = refl
+
+as-same : (x y : ℕ) → asFlag x ≡ asFlag y → isZero x ≡ isZero y
+unfolding isZero asFlag
+as-same zero zero e = refl
+as-same zero (suc y) e = absurd (let z : ⊥ = omega arith in z)
+as-same (suc x) zero e = absurd (let z : ⊥ = omega arith in z)
+as-same (suc x) (suc y) e = refl
+
+as-some : (x : ℕ) → asFlag x ≡ 1 → 0 < x
+unfolding asFlag
+as-some zero e = absurd (let z : ⊥ = omega arith in z)
+as-some (suc x) e = omega arith
+
+as-least : (x : ℕ) → asFlag (min x 1) ≡ asFlag x
+unfolding asFlag
+as-least zero = ap asFlag (let e : min zero 1 ≡ 0 = omega arith in e)
+as-least (suc x) = ap asFlag (let e : min (suc x) 1 ≡ 1 = omega arith in e)
+
 as-lacks : (x y : ℕ) → lacks (asFlag x) (asFlag y) ≡ lacks x y
 unfolding asFlag lacks
 as-lacks zero y = refl
@@ -58,59 +74,12 @@ as-lacks (suc x) (suc y) = refl
 
 pub flag-small : (f : Flags) (i : ℕ) → flagIn f i ≤ 1
 unfolding flagIn
-flag-small f i = as-small (at (f .row) i)
-
--- each way through `lacks`
-pub non-lacks : (f b : ℕ) → f ≡ 0 → 0 ≡ lacks f b
-unfolding lacks
-non-lacks f b e = rw e
+flag-small f i = clear-small (f .word) i
 
 pub none-lacks : (f b : ℕ) → (f ≡ 0 → ⊥) → b ≡ 0 → 1 ≡ lacks f b
 unfolding lacks
 none-lacks zero b x y = absurd (x refl)
 none-lacks (suc f) b x y = rw y
-
-pub some-lacks : (f b : ℕ) → (f ≡ 0 → ⊥) → (b ≡ 0 → ⊥) → 0 ≡ lacks f b
-unfolding lacks
-some-lacks zero b x y = absurd (x refl)
-some-lacks (suc f) zero x y = absurd (y refl)
-some-lacks (suc f) (suc b) x y = refl
-
-pub lacks-small : (f b : ℕ) {x : ℕ} → x ≡ lacks f b → (x ≤ 1) × (x ≤ f)
-lacks-small f b e = rw e (go f b)
-  where
-    go : (f b : ℕ) → (lacks f b ≤ 1) × (lacks f b ≤ f)
-    go zero b = unfold lacks in omega arith
-    go (suc f) zero = unfold lacks in omega arith
-    go (suc f) (suc b) = unfold lacks in omega arith
-
--- the flag that is left where a test fails
-pub flag-left : (flags failing : Flags) (i : ℕ) {x y z : ℕ} → x ≡ flagIn flags i → y ≡ flagIn failing i
-    → z ≡ lacks x y → x - z ≡ asFlag (flagIn flags i - lacks (flagIn flags i) (flagIn failing i))
-flag-left flags failing i {x} ex ey ez =
-    ap (λ v. x - v) (ez ∙ ap₂ lacks ex ey)
-    ∙ ap (λ v. v - lacks (flagIn flags i) (flagIn failing i)) ex
-    ∙ sym (as-is _ (omega (arith, flag-small flags i)))
-
--- the loop that counts places: the sum so far, which is at most the number of places passed
-pub record Counting (g : ℕ → ℕ) (sum i : ℕ) : Type 0 where
-  pub within : i ≤ 32
-  pub sums : sum ≡ sumTo g i
-  pub small : sum ≤ i
-
-pub count-start : (g : ℕ → ℕ) → Counting g 0 0
-count-start g = record { within = omega arith; sums = sum-start g; small = omega arith }
-
-module _ {g : ℕ → ℕ} {sum i : ℕ} (a : Counting g sum i) where
-  pub count-step : {x : ℕ} → i < 32 → x ≤ 1 → x ≡ g i → Counting g (sum + x) (i + 1)
-  count-step lt one e = record {
-    within = omega arith;
-    sums = sum-step g (a .sums) e;
-    small = omega (arith, a .small);
-  }
-
-  pub count-end : 32 ≤ i → sum ≡ sumTo g 32
-  count-end done = sum-end g (a .sums) (omega (arith, a .within))
 
 pub same-unchanged : (a b : ℕ) → a ≡ b → 0 ≡ changed a b
 unfolding changed
@@ -128,61 +97,66 @@ changed-small a b e = rw e (go (eqb a b))
     go true = omega arith
     go false = omega arith
 
--- inside a list it does not matter what stands for its outside
-default-same : (xs : List ℕ) (i a b : ℕ) → i < length xs → getD xs i a ≡ getD xs i b
-default-same [] i a b h = absurd (let z : ⊥ = omega arith in z)
-default-same (x ∷ xs) zero a b h = refl
-default-same (x ∷ xs) (suc i) a b h = default-same xs i a b (omega arith)
-
 -- what is held, read again
 module _ (f : ℕ → ℕ) (n : ℕ) where
-  from-row : (i x : ℕ) → i < 32 → getD (row 1 (λ j. asFlag (f j)) n) i 1 ≡ x → flagIn (held f n) i ≡ asFlag x
-  unfolding flagIn held
-  from-row i x h e =
-      ap asFlag
-      (default-same (row 1 (λ j. asFlag (f j)) n) i 0 1
-      (omega (arith, row-length 1 (λ j. asFlag (f j)) n))
-      ∙ e)
-
   pub held-at : n ≤ 32 → (i : ℕ) → i < n → flagIn (held f n) i ≡ asFlag (f i)
-  held-at small i lt =
-      from-row i (asFlag (f i)) (omega arith) (row-at 1 (λ j. asFlag (f j)) n i lt small)
-      ∙ as-is (asFlag (f i)) (as-small (f i))
+  unfolding flagIn held
+  held-at small i lt = word-clear f n i lt ∙ zero-as (f i)
 
   pub held-past : (i : ℕ) → n ≤ i → i < 32 → flagIn (held f n) i ≡ 1
-  unfolding asFlag
-  held-past i le h = from-row i 1 h (row-past 1 (λ j. asFlag (f j)) n i le h)
+  unfolding flagIn held
+  held-past i le h = word-past f n i le
 
   -- where f is a flag it is f
   pub held-flag : n ≤ 32 → (i : ℕ) → i < n → f i ≤ 1 → flagIn (held f n) i ≡ f i
   held-flag small i lt one = held-at small i lt ∙ as-is (f i) one
 
--- the row that a loop filled
-pub filled-held : (f : ℕ → ℕ) (n : ℕ) {places : List ℕ} {i : ℕ} → places ≡ row 1 (λ j. asFlag (f j)) i
-    → i ≡ n → record { row = places } ≡ held f n
+-- functions that are 0 at the same places are held as one, and what is not 0 past n need not be held there
+held-first : (f g : ℕ → ℕ) (n m : ℕ) → n ≤ m → ((i : ℕ) → i < n → asFlag (f i) ≡ asFlag (g i))
+    → ((i : ℕ) → n ≤ i → i < m → asFlag (f i) ≡ 1) → held f m ≡ held g n
 unfolding held
-filled-held f n e all = ap (λ (r : List ℕ). record { row = r }) (fill-end 1 _ e all)
+held-first f g n m le same past =
+    ap (λ (w : ℕ). record { word = w })
+    (word-same f g n m le (λ i lt. as-same (f i) (g i) (same i lt)) (λ i a b. as-some (f i) (past i a b)))
 
--- functions that agree are held as one
-module _ (f g : ℕ → ℕ) (n : ℕ) (small : n ≤ 32) where
-  flags-same : ((i : ℕ) → i < n → asFlag (f i) ≡ asFlag (g i)) → held f n ≡ held g n
-  unfolding held
-  flags-same e =
-      ap (λ (r : List ℕ). record { row = r })
-      (row-same 1 (λ i. asFlag (f i)) (λ i. asFlag (g i)) n small e)
+pub held-same : (f g : ℕ → ℕ) (n : ℕ) → n ≤ 32 → ((i : ℕ) → i < n → f i ≡ g i) → held f n ≡ held g n
+held-same f g n small e =
+    held-first f g n n (omega arith) (λ i lt. ap asFlag (e i lt))
+    (λ i le lt. absurd (let z : ⊥ = omega arith in z))
 
-  pub held-same : ((i : ℕ) → i < n → f i ≡ g i) → held f n ≡ held g n
-  held-same e = flags-same (λ i lt. ap asFlag (e i lt))
+-- a loop that holds place after place
+pub held-start : (f : ℕ → ℕ) → record { word = 0 } ≡ held f 0
+unfolding held wordOf bitsTo sumTo
+held-start f = refl
 
--- and what is 1 past n need not be held there
-held-first : (f : ℕ → ℕ) (n : ℕ) → n ≤ 32 → ((i : ℕ) → n ≤ i → i < 32 → asFlag (f i) ≡ 1)
-    → held f 32 ≡ held f n
-unfolding held
-held-first f n small past =
-    ap (λ (r : List ℕ). record { row = r })
-    (row-is 1 (λ i. asFlag (f i)) n _ (row-length 1 (λ i. asFlag (f i)) 32)
-    (λ j h s. row-at 1 (λ i. asFlag (f i)) 32 j s (omega arith))
-    (λ j h s. row-at 1 (λ i. asFlag (f i)) 32 j s (omega arith) ∙ past j h s))
+pub held-step : (f : ℕ → ℕ) {flags r : Flags} {i x : ℕ} → i < 32 → flags ≡ held f i → x ≡ f i
+    → r ≡ held (λ j. pick (eqb j i) (min x (flagIn flags j)) (flagIn flags j)) 32 → r ≡ held f (i + 1)
+held-step f {flags} {r} {i} {x} lt before e is =
+    is
+    ∙ held-first _ f (i + 1) 32 (omega arith) (λ j l. same j (omega arith) (eqb j i) refl)
+    (λ j le l. past j (omega arith) l (eqb j i) refl)
+  where
+    outside : (j : ℕ) → i ≤ j → j < 32 → flagIn flags j ≡ 1
+    outside j le l = ap (λ g. flagIn g j) before ∙ held-past f i j le l
+
+    same : (j : ℕ) → j ≤ i → (b : Bool) → eqb j i ≡ b
+        → asFlag (pick b (min x (flagIn flags j)) (flagIn flags j)) ≡ asFlag (f j)
+    same j le true t =
+        ap (λ v. asFlag (min x v)) (outside j (omega (arith, eqb-true j i t)) (omega arith))
+        ∙ as-least x
+        ∙ ap asFlag (e ∙ ap f (sym (eqb-true j i t)))
+    same j le false t =
+        ap asFlag
+        (ap (λ g. flagIn g j) before ∙ held-at f i (omega arith) j (omega (arith, eqb-false j i t)))
+        ∙ as-is (asFlag (f j)) (as-small (f j))
+
+    past : (j : ℕ) → i < j → j < 32 → (b : Bool) → eqb j i ≡ b
+        → asFlag (pick b (min x (flagIn flags j)) (flagIn flags j)) ≡ 1
+    past j less l true t = absurd (let z : ⊥ = omega (arith, eqb-true j i t) in z)
+    past j less l false t = ap asFlag (outside j (omega arith) l) ∙ as-is 1 (omega arith)
+
+pub held-end : (f : ℕ → ℕ) {flags : Flags} {i n : ℕ} → flags ≡ held f i → i ≡ n → flags ≡ held f n
+held-end f e all = e ∙ ap (held f) all
 
 -- a sum whose terms past n are 0, and a first place where none past n passes
 sum-first : (f : ℕ → ℕ) (n m : ℕ) → ((i : ℕ) → n ≤ i → i < n + m → f i ≡ 0) → sumTo f (n + m) ≡ sumTo f n
@@ -234,11 +208,11 @@ module _ (f b : ℕ → ℕ) (n : ℕ) (small : n ≤ 32) where
       → held (λ i. flagIn (held f n) i - lacks (flagIn (held f n) i) (flagIn (held b n) i)) 32
       ≡ held (λ i. f i - lacks (f i) (b i)) n
   made-held flag =
-      held-first _ n small
+      held-first _ (λ i. f i - lacks (f i) (b i)) n 32 small
+      (λ i lt.
+      ap asFlag (ap₂ (λ x y. x - y) (held-flag f n small i lt (flag i lt)) (lacks-at i lt)))
       (λ i le h.
       ap₂ (λ x y. asFlag (x - y)) (held-past f n i le h) (lacks-past i le h) ∙ (unfold asFlag in refl))
-      ∙ held-same _ _ n small
-      (λ i lt. ap₂ (λ x y. x - y) (held-flag f n small i lt (flag i lt)) (lacks-at i lt))
 
 -- two tables of flags, both held
 pub changed-held : (f g : ℕ → ℕ) (n : ℕ) → n ≤ 32 → ((i : ℕ) → i < n → f i ≤ 1)

@@ -1,28 +1,36 @@
--- The last place where a number is not 0: the loop that looks for it, and what it says of the sum.
+-- The last place where a number is not 0: which it is, and what it says of the sum.
 -- Assumes nothing.
 use Prim.Native.Nat.{ℕ, zero, suc, _+_, _≤_, _<_}
 use native.Mathlib.Omega.{arith}
 use native.Mathlib.Nat.{eq-or-lt-of-le}
-use native.Mathlib.Numerals.{add-one}
-use mathlib.Core.Path.{_≡_, refl, ap, _∙_}
+use mathlib.Core.Path.{_≡_, refl, sym, ap, ap₂, _∙_}
 use mathlib.Core.Bool.{Bool, true, false}
 use mathlib.Core.Logic.{⊎-elim}
 use lib.Dec.{eqb}
-use borrow.Author.Tests.{eq-eqb, ne-eqb, eqb-true, eqb-false}
+use borrow.Author.Tests.{eqb-true, eqb-false}
 use Rattle.base.specs.Choice.{pick}
 use Rattle.base.specs.Sums.{sumTo}
 use Rattle.base.proofs.OrderLaws.{le-or-lt}
 use Rattle.flags.specs.Flags.{lastTo}
 
 module _ (f : ℕ → ℕ) where
-  -- one place more
-  pub last-here : {i : ℕ} → (f i ≡ 0 → ⊥) → i + 1 ≡ lastTo f (i + 1)
+  -- it is the place past which there is none
+  pub last-is : (n k : ℕ) → k < n → (f k ≡ 0 → ⊥) → ((i : ℕ) → k < i → i < n → f i ≡ 0)
+      → lastTo f n ≡ suc k
   unfolding lastTo
-  last-here {i} some = rw (add-one i, ne-eqb (f i) 0 some) refl
-
-  pub last-on : {i last : ℕ} → last ≡ lastTo f i → f i ≡ 0 → last ≡ lastTo f (i + 1)
-  unfolding lastTo
-  last-on {i} e none = rw (add-one i, eq-eqb (f i) 0 none) e
+  last-is zero k lt some past = absurd (let z : ⊥ = omega arith in z)
+  last-is (suc n) k lt some past =
+      go (eqb (f n) 0) refl (λ less. last-is n k less some (λ i a b. past i a (omega arith)))
+    where
+      go : (b : Bool) → eqb (f n) 0 ≡ b → (k < n → lastTo f n ≡ suc k)
+          → pick b (lastTo f n) (suc n) ≡ suc k
+      go true e before =
+          ⊎-elim (λ (same : k ≡ n). absurd (some (ap f same ∙ eqb-true (f n) 0 e))) (λ less. before less)
+          (eq-or-lt-of-le (let z : k ≤ n = omega arith in z))
+      go false e before =
+          ⊎-elim (λ (same : k ≡ n). ap suc (sym same))
+          (λ less. absurd (eqb-false (f n) 0 e (past n less (omega arith))))
+          (eq-or-lt-of-le (let z : k ≤ n = omega arith in z))
 
   -- past the last there is none
   pub last-past : (n i : ℕ) → lastTo f n ≤ i → i < n → f i ≡ 0
@@ -71,5 +79,9 @@ module _ (f : ℕ → ℕ) where
       go true t some before = omega (arith, before some)
       go false t some before = omega (arith, eqb-false (f n) 0 t)
 
-  pub last-end : {i last : ℕ} → last ≡ lastTo f i → i ≤ 32 → 32 ≤ i → last ≡ lastTo f 32
-  last-end e low high = e ∙ ap (lastTo f) (omega arith)
+pub last-same : (f g : ℕ → ℕ) (n : ℕ) → ((i : ℕ) → i < n → f i ≡ g i) → lastTo f n ≡ lastTo g n
+unfolding lastTo
+last-same f g zero same = refl
+last-same f g (suc n) same =
+    ap₂ (λ x y. pick (eqb x 0) y (suc n)) (same n (omega arith))
+    (last-same f g n (λ i lt. same i (omega arith)))

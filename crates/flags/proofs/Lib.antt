@@ -1,3 +1,6 @@
-pub mod FlagLaws
+pub mod BitLaws
+pub mod WordLaws
 pub mod LastLaws
+pub mod OpLaws
+pub mod FlagLaws
 pub mod Unique

@@ -3,6 +3,8 @@
 use Rattle.base.proofs.Unique.{only, Only}
 use Rattle.flags.proofs.flag_at.Kinds as flag-at
 use Rattle.flags.proofs.flag_at.Reads as flag-at-reads
+use Rattle.flags.proofs.with_flag.Kinds as with-flag
+use Rattle.flags.proofs.with_flag.Reads as with-flag-reads
 use Rattle.flags.proofs.flags_of.Kinds as flags-of
 use Rattle.flags.proofs.flags_of.Reads as flags-of-reads
 use Rattle.flags.proofs.failing_of.Kinds as failing-of
@@ -23,6 +25,9 @@ change-only κs a x y s s′ p q = only p q
 
 pub flag-at-only : Only 0 flag-at.ps flag-at.r flag-at-reads.Post
 flag-at-only κs a x y s s′ p q = only p q
+
+pub with-flag-only : Only 0 with-flag.ps with-flag.r with-flag-reads.Post
+with-flag-only κs a x y s s′ p q = only p q
 
 pub flags-of-only : Only 0 flags-of.ps flags-of.r flags-of-reads.Post
 flags-of-only κs a x y s s′ p q = only p q

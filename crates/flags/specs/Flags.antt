@@ -11,8 +11,8 @@
 use Prim.Native.Nat.{ℕ, zero, suc}
 use lib.Dec.{eqb}
 use Rattle.base.specs.Choice.{pick}
-use Rattle.base.specs.Rows.{at, row}
 use Rattle.flags.specs.declared.Flags.{Flags}
+use Rattle.flags.specs.Words.{clear, wordOf}
 
 -- 0 for 0, and 1 for any other number
 unfoldable pub asFlag : ℕ → ℕ
@@ -20,10 +20,10 @@ asFlag zero = 0
 asFlag (suc _) = 1
 
 unfoldable pub flagIn : Flags → ℕ → ℕ
-flagIn f i = asFlag (at (f .row) i)
+flagIn f i = clear (f .word) i
 
 unfoldable pub held : (ℕ → ℕ) → ℕ → Flags
-held f n = record { row = row 1 (λ i. asFlag (f i)) n }
+held f n = record { word = wordOf f n }
 
 -- 1 where the flag is not the given one
 unfoldable pub changed : ℕ → ℕ → ℕ

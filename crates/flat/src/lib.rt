@@ -29,7 +29,7 @@ pub fn count_in(numbers: usize) -> usize
 }
 
 // Task i of a flat table.
-fn task_in(s: &[u32], i: usize) -> Task
+pub fn task_in(s: &[u32], i: usize) -> Task
     requires { ⌜ i < 32 ⌝ }
     ensures { λ r. ⌜ r ≡ taskIn (now (s .entry)) i ⌝ }
 {
@@ -55,7 +55,7 @@ pub fn tasks_in(s: &[u32]) -> [Task; 32]
 }
 
 // The three numbers of a record, at the place of record i.
-fn put_record(out: &mut [u32], i: usize, r: Record)
+pub fn put_record(out: &mut [u32], i: usize, r: Record)
     requires { ⌜ (i < 32) × (3 * i + 3 ≤ length (now out)) ⌝ }
     ensures { λ _. ⌜ Put (now (out .entry)) (3 * i) (recordNumbers r) (3 * i + 3) (now (out .exit)) ⌝ }
 {

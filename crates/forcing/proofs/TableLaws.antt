@@ -35,7 +35,7 @@ module _ {t : Table} (legal : LegalTable t) {given : Flags} (sent : given ≡ he
         ∙ ap (held (flagIn given)) (sym e)
 
     module _ {inverse rest cost reach : List ℕ} {h : Head} (is : RowsOf t inverse rest cost reach h) where
-      given-list : listOf (flagIn given) (h .n) ≡ flagsOf t
+      pub given-list : listOf (flagIn given) (h .n) ≡ flagsOf t
       unfolding flagsOf
       given-list =
           ap (listOf (flagIn given)) (is .n)

@@ -1,20 +1,20 @@
 -- A byte that is read is the byte as it is written: two digits that read as b are, raised, the text of b, and
 -- the text of b reads as b. The digit rule enters by two computed tests, `digit-there` and `digit-back`.
 -- Assumes nothing.
-use Prim.Native.Nat.{ℕ, _+_, _*_, _/_, _%_, _<_, _≤_}
+use Prim.Native.Nat.{ℕ, _+_, _*_, _/_, _%_, _<_}
 use native.Mathlib.Omega.{arith}
 use mathlib.Core.Path.{_≡_, refl, sym, _∙_, ap, ap₂, subst}
-use mathlib.Core.Bool.{Bool, true, false}
+use mathlib.Core.Bool.{Bool, true}
 use mathlib.Core.List.{List, [], _∷_}
 use lib.Dec.{ltb, eqb}
 use lib.ListN.{getD, drop}
 use lib.Seq.{getD-drop}
-use borrow.Author.Tests.{lt-ltb, lt-leb, le-leb, ltb-true, ltb-false, eqb-true}
+use borrow.Author.Tests.{lt-ltb, eqb-true}
 use Rattle.base.specs.Choice.{pick}
 use Rattle.frames.specs.Digits.{digitOf, digitText, raise, raised, digitAt, byteAt, wordAt, Digits}
 use Rattle.frames.specs.Text.{wordBytes}
 use Rattle.frames.proofs.BelowLaws.{all-below}
-use Rattle.frames.proofs.DigitLaws.{WordBytes, raised-at}
+use Rattle.frames.proofs.DigitLaws.{each-byte, past-digit, WordBytes, raised-at}
 
 -- the two tests: digits read and written again, and written and read again
 back : ℕ → Bool
@@ -29,30 +29,14 @@ pub digit-there : (d : ℕ) → d < 16 → digitOf (digitText d) ≡ d
 unfolding there digitText digitOf
 digit-there d h = eqb-true (digitOf (digitText d)) d (all-below there 16 refl d h)
 
--- past F there is no digit
-past : (b : ℕ) → 71 ≤ b → digitOf b ≡ 255
-unfolding digitOf
-past b h =
-    rw (
-      le-leb 48 b (omega arith),
-      lt-leb b 57 (omega arith),
-      le-leb 65 b (omega arith),
-      lt-leb b 70
-          (omega arith),
-    )
-
 -- a digit is written as its raised byte
 pub digit-back : (b : ℕ) → digitOf b < 16 → digitText (digitOf b) ≡ raise b
 unfolding back digitText digitOf raise
-digit-back b h = go (ltb b 71) refl
-  where
-    go : (t : Bool) → ltb b 71 ≡ t → digitText (digitOf b) ≡ raise b
-    go true e =
-        eqb-true (digitText (digitOf b)) (raise b)
-        (subst (λ (t : Bool). pick t (eqb (digitText (digitOf b)) (raise b)) true ≡ true)
-        (lt-ltb (digitOf b) 16 h)
-        (all-below back 71 refl b (ltb-true b 71 e)))
-    go false e = absurd (let z : ⊥ = omega (arith, past b (ltb-false b 71 e)) in z)
+digit-back b h =
+    eqb-true (digitText (digitOf b)) (raise b)
+    (subst (λ (t : Bool). pick t (eqb (digitText (digitOf b)) (raise b)) true ≡ true)
+    (lt-ltb (digitOf b) 16 h)
+    (each-byte back refl (λ c l. rw (past-digit c l) refl) b))
 
 -- a byte's text reads as the byte
 pub byte-there : (b : ℕ) (rest : List ℕ) → b < 256

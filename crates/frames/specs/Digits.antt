@@ -1,14 +1,15 @@
--- Document 01, "The plan lines": digits, and the bytes that they write.
+-- Document 01, "The plan lines", and document 02, Wish 6: digits, and the bytes that they write.
 --
---   document 01                                          here
---   upper-case digits 0-9, A-F                           digitOf, and digitText the other way
---   the digit value of a byte, 255 for what is no digit  digitOf b, and digitTable: that of each byte
---   a byte as the writer writes it                       raise b, and raised s for a text, byte by byte
+--   documents 01 and 02                                  here
+--   upper-case digits 0-9, A-F, as they are written      upperOf, and digitText the other way
+--   the digit rule accepts both cases: a to f too        digitOf b, and digitTable: that of each byte
+--   255 for all that are no digit                        digitOf b ≡ 255
+--   a text with its letters raised: a to f as A to F     raised s, byte by byte raise b
 --   two digits to a byte                                 byteAt s i: byte i of the line that s starts with
 --   4 bytes, highest first                               wordAt s i
 --   all of the due digits are digits                     Digits s n, and its test allDigits s n
 --
--- The digit rule is in `digitOf`, `digitText` and `raise` alone. Assumes nothing.
+-- The digit rule is in `digitOf`, `digitText` and `raise` alone, with their ranges. Assumes nothing.
 use Prim.Native.Nat.{ℕ, _+_, _*_, _-_, _<_}
 use mathlib.Core.Bool.{Bool}
 use mathlib.Core.List.{List, map}
@@ -23,8 +24,16 @@ abbrev pub among : ℕ → ℕ → ℕ → Bool
 among lo hi b = both (leb lo b) (leb b hi)
 
 -- 0 to 9 are the bytes 48 to 57, A to F the bytes 65 to 70; all else has 255
+abbrev pub upperOf : ℕ → ℕ
+upperOf b = pick (among 48 57 b) (b - 48) (pick (among 65 70 b) (b - 55) 255)
+
+-- b is one of the letters a to f, the bytes 97 to 102
+abbrev pub lower : ℕ → Bool
+lower b = among 97 102 b
+
+-- a to f have the values of A to F
 unfoldable pub digitOf : ℕ → ℕ
-digitOf b = pick (among 48 57 b) (b - 48) (pick (among 65 70 b) (b - 55) 255)
+digitOf b = pick (lower b) (b - 87) (upperOf b)
 
 -- the digit values of the 256 bytes, in order
 unfoldable pub digitTable : List ℕ
@@ -34,10 +43,9 @@ digitTable = listOf digitOf 256
 unfoldable pub digitText : ℕ → ℕ
 digitText d = pick (ltb d 10) (48 + d) (55 + d)
 
--- The byte that the writer writes for what b is read as. A digit is read from one byte only, the one that is
--- written, so it is b itself; where two bytes are read as one digit, this says which of them is written.
+-- the letters a to f raised to A to F, the bytes 65 to 70: what the writer writes for what b is read as
 unfoldable pub raise : ℕ → ℕ
-raise b = b
+raise b = pick (lower b) (b - 32) b
 
 unfoldable pub raised : List ℕ → List ℕ
 raised s = map raise s

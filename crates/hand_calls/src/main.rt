@@ -150,12 +150,17 @@ fn borders() {
     );
 }
 
-// One task, T = 10, C = 4, D = 10, preemptive, in upper and in lower case.
+// One task, T = 10, C = 4, D = 10, preemptive, in upper, lower and mixed case (document 02, Wish 6); and the
+// letter after f.
 fn digits() {
     let upper = b"01010001FD\n02010000000A000000040000000AE5\n";
     show(b"the digit A", planner::plan_done(upper, Job::Test, 32));
     let lower = b"01010001FD\n02010000000a000000040000000AE5\n";
     show(b"the digit a", planner::plan_done(lower, Job::Test, 32));
+    let mixed = b"01010001fD\n02010000000a000000040000000Ae5\n";
+    show(b"both cases", planner::plan_done(mixed, Job::Test, 32));
+    let past = b"01010001FD\n02010000000g000000040000000AE5\n";
+    show(b"the letter g", planner::plan_done(past, Job::Test, 32));
 }
 
 fn main() {

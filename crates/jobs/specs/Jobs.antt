@@ -1,6 +1,6 @@
 -- Either job with a lent answer: the yes, the numbers and the records.
 --
---   what is told of an answer     Told
+--   what is told of an answer     Told; Heard without its records
 --   the promises of the calls     PlanTold, TasksTold
 --
 -- Assumes nothing.
@@ -12,6 +12,7 @@ use Rattle.planner.specs.declared.Done.{Done}
 use Rattle.planner.specs.declared.Job.{Job}
 use Rattle.planner.specs.Done.{planDone, listDone}
 use Rattle.flat.specs.Flat.{countIn, tasksIn, flatAfter}
+use Rattle.asked.specs.declared.Asked.{Asked}
 use Rattle.told.specs.Told.{yesOf, toldOf, toldAfter}
 
 -- an answer, its records and its numbers: in r the yes, in new and told′ the caller's lists afterwards
@@ -19,6 +20,11 @@ pub record Told (d : Done) (old told : List ℕ) (r : ℕ) (new told′ : List �
   pub yes : r ≡ yesOf (d .answer)
   pub records : new ≡ flatAfter d old
   pub answer : told′ ≡ toldAfter (toldOf (d .answer) (d .count)) told
+
+-- the same where the records are written already
+pub record Heard (a : Asked) (told : List ℕ) (r : ℕ) (told′ : List ℕ) : Type 0 where
+  pub yes : r ≡ yesOf (a .answer)
+  pub answer : told′ ≡ toldAfter (toldOf (a .answer) (a .count)) told
 
 -- the promise of job_plan; eskihrum_flat_test_plan and eskihrum_flat_force_plan promise it of their job
 abbrev pub PlanTold : Job → List ℕ → List ℕ → List ℕ → ℕ → List ℕ → List ℕ → Type 0

@@ -7,3 +7,4 @@ pub mod SettledLaws
 pub mod ExactLaws
 pub mod Samples
 pub mod Theorems
+pub mod Letters

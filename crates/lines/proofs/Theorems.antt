@@ -1,8 +1,10 @@
--- What reading is, over its definition: each theorem states one sentence of document 01 and cites its law.
+-- What reading is, over its definition: each theorem states one sentence of document 01, as document 02's
+-- Wish 6 has it, and cites its law. What that says of letters stands in Letters.
 --
---   document 01                                                      theorem
---   accepts exactly the text that a legal table is written as, and
---   returns that table, with zeros in all places past the n-th       reading-exact, text-accepted
+--   documents 01 and 02                                              theorem
+--   accepts exactly the texts that are, raised, what a legal table
+--   is written as, and returns that table, with zeros in all places
+--   past the n-th                                                    reading-exact, text-accepted
 --   the same of a front, whatever follows it                         front-exact
 --   one text, one table                                              text-only
 --   a refusal is given exactly when its row of the table says so     refusal-exact

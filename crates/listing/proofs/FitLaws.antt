@@ -6,8 +6,6 @@ use mathlib.Core.Path.{_≡_, refl}
 use mathlib.Core.Bool.{Bool, true, false}
 use mathlib.Core.List.{List}
 use lib.ListN.{length, length-append}
-use lib.Dec.{eqb}
-use borrow.Author.Tests.{eqb-true, eqb-false}
 use Rattle.table.specs.Table.{taskAt, LegalTable}
 use Rattle.table.specs.declared.Table.{Table}
 use Rattle.planner.specs.declared.Record.{Record}
@@ -15,7 +13,7 @@ use Rattle.planner.specs.Answers.{recordAt}
 use Rattle.page.specs.Decimal.{decimal}
 use Rattle.page.specs.Words.{word, either}
 use Rattle.page.proofs.DecimalLaws.{tens, decimal-short}
-use Rattle.listing_lines.specs.Lines.{lineOne, lastLine, refusalLine}
+use Rattle.listing_lines.specs.Lines.{lineOne, lastLine, ofForcing, refusalLine}
 use Rattle.task_lines.specs.TaskLines.{taskStart}
 use Rattle.table.specs.Load.{loadAt, totalLoad}
 use Rattle.table.proofs.LoadLaws.{loadAt-small, loads-small}
@@ -25,7 +23,7 @@ use Rattle.listing_lines.proofs.LineLaws.{
   line-one-length,
   last-length,
   refusal-length,
-  refusal-length-14,
+  forcing-length,
 }
 
 -- what makes the numbers of an accepted plan short
@@ -120,9 +118,9 @@ module _ (t : Table) (rs : List Record) (forced passes : ℕ) (short : Short t r
         two passes (omega (arith, short .soon)),
       )
 
-  pub accepted-fits : length (acceptedText t rs forced passes) ≤ listingRoom
+  pub accepted-most : length (acceptedText t rs forced passes) ≤ 1920
   unfolding acceptedText
-  accepted-fits =
+  accepted-most =
       simp length-append
       (omega (
         arith,
@@ -133,13 +131,15 @@ module _ (t : Table) (rs : List Record) (forced passes : ℕ) (short : Short t r
       ))
 
 -- a refusal of machine numbers fits
-pub refusal-fits : (number place passes : ℕ) → number < 4294967296 → place < 4294967296 → passes < 4294967296
-    → length (refusalLine number place passes) ≤ listingRoom
-refusal-fits number place passes a b c = go (eqb number 14) refl
-  where
-    go : (t : Bool) → eqb number 14 ≡ t → length (refusalLine number place passes) ≤ listingRoom
-    go true e =
-        let long = refusal-length-14 number place passes (eqb-true number 14 e) in
-        omega (arith, long, ten number a, ten place b, ten passes c)
-    go false e =
-        omega (arith, refusal-length number place passes (eqb-false number 14 e), ten number a, ten place b)
+module _ (number place passes : ℕ) (a : number < 4294967296) (b : place < 4294967296)
+    (c : passes < 4294967296) where
+  pub refusal-most : length (refusalLine number place passes) ≤ 54
+  refusal-most = go (ofForcing number) refl
+    where
+      go : (t : Bool) → ofForcing number ≡ t → length (refusalLine number place passes) ≤ 54
+      go true e =
+          omega (arith, forcing-length number place passes e, ten number a, ten place b, ten passes c)
+      go false e = omega (arith, refusal-length number place passes e, ten number a, ten place b)
+
+  pub refusal-fits : length (refusalLine number place passes) ≤ listingRoom
+  refusal-fits = omega (arith, refusal-most)

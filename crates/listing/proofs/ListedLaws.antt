@@ -29,7 +29,7 @@ use Rattle.listing.specs.Listing.{
   answerText,
   listingOf,
   listingRoom,
-  Listed,
+  ListedAs,
 }
 use Rattle.listing.proofs.FitLaws.{refusal-fits}
 use Rattle.listing.proofs.AnswerLaws.{legal-fits}
@@ -43,12 +43,12 @@ module _ (t : Table) (rs : List Record) (forced passes : ℕ) where
   unfolding acceptedText
   accepted-length = simp length-append (omega arith)
 
-  pub accepted-put : {s s₁ s₂ s₃ : List ℕ} {a b r total : ℕ}
-      → Put s 0 (lineOne (t .policy) (t .cores) (t .n)) a s₁
+  pub accepted-put : {s s₁ s₂ s₃ : List ℕ} {at a b r total : ℕ}
+      → Put s at (lineOne (t .policy) (t .cores) (t .n)) a s₁
       → Put s₁ a (linesTo (lineAt t rs) (t .n)) b s₂
       → total ≡ totalLoad t
       → Put s₂ b (lastLine total forced passes) r s₃
-      → Put s 0 (acceptedText t rs forced passes) r s₃
+      → Put s at (acceptedText t rs forced passes) r s₃
   unfolding acceptedText
   accepted-put p q e l = put-then p (put-then q (rw e at l))
 
@@ -109,8 +109,8 @@ table-ready {t} {d} legal de enough = (
 )
 
 -- the buffer then
-module _ {text old : List ℕ} where
-  pub listed-short : length old < listingRoom → Listed text old 0 old
+module _ {w old : List ℕ} where
+  pub listed-short : length old < listingRoom → ListedAs w old 0 old
   listed-short h = record {
     answer = rw (lt-ltb (length old) listingRoom h);
     bytes = rw (lt-ltb (length old) listingRoom h);
@@ -118,7 +118,7 @@ module _ {text old : List ℕ} where
   }
 
   module _ (enough : listingRoom ≤ length old) where
-    pub listed-put : {w new : List ℕ} {r : ℕ} → w ≡ listingOf text → Put old 0 w r new → Listed text old r new
+    pub listed-put : {w′ new : List ℕ} {r : ℕ} → w′ ≡ w → Put old 0 w′ r new → ListedAs w old r new
     listed-put e p =
         let q = put-start p in
         record {
@@ -128,6 +128,6 @@ module _ {text old : List ℕ} where
         }
 
 -- any two results that the promise allows are equal
-pub listed-only : {text old a b : List ℕ} {r r′ : ℕ} → Listed text old r a → Listed text old r′ b
+pub listed-only : {w old a b : List ℕ} {r r′ : ℕ} → ListedAs w old r a → ListedAs w old r′ b
     → (r ≡ r′) × (a ≡ b)
 listed-only p q = (p .answer ∙ sym (q .answer), p .bytes ∙ sym (q .bytes))

@@ -33,7 +33,7 @@ use Rattle.planner.specs.Done.{forceDone, legalDone, roomDone, planDone}
 use Rattle.page.specs.Decimal.{digits, decimal}
 use Rattle.page.specs.Words.{word}
 use Rattle.table.specs.Load.{load, totalLoad}
-use Rattle.listing_lines.specs.Lines.{lineOne, lastLine, refusalLine}
+use Rattle.listing_lines.specs.Lines.{lineOne, lastLine, ofForcing, refusalLine}
 use Rattle.task_lines.specs.TaskLines.{taskStart, taskLineText}
 use Rattle.listing.specs.Listing.{linesTo, acceptedText, listingOf}
 
@@ -51,5 +51,5 @@ unfolding sumTo topTo least firstFrom workIn W E share block from cap shareOf bl
 example = refl
 
 pub empty : listingOf [] ≡ word "refused 1 place 1\n"
-unfolding listingOf planDone readOf frontBy headLineFault frameFault refusalLine decimal digits
+unfolding listingOf planDone readOf frontBy headLineFault frameFault ofForcing refusalLine decimal digits
 empty = refl

@@ -4,7 +4,7 @@
 --   line one, the tasks' lines, the last line      acceptedText
 --   a refused plan's one line                      answerText, of a refusal
 --   what the plan printer writes                   listingOf text
---   what a buffer holds then                       Listed
+--   what a buffer holds then                       ListedAs, of any text; Listed
 --
 -- The lines themselves are in the crates listing_lines and task_lines. Assumes nothing.
 use Prim.Native.Nat.{ℕ, zero, suc, _+_, _≤_}
@@ -71,17 +71,12 @@ listingRoom = 2048
 abbrev pub Ready : Table → Done → List ℕ → Type 0
 Ready t d out = LegalTable t × (length (answerText t (d .recs) (d .answer)) ≤ length out)
 
--- the answer, and the buffer then, by the test whether there is too little room
-abbrev pub countOf : List ℕ → List ℕ → ℕ
-countOf text old = pick (ltb (length old) listingRoom) 0 (length (listingOf text))
-
-abbrev pub bytesOf : List ℕ → List ℕ → List ℕ
-bytesOf text old =
-    pick (ltb (length old) listingRoom) old (listingOf text ++ drop (length (listingOf text)) old)
-
--- A buffer with less room stays as it is, and the answer is 0. Else the listing stands at its start, the
--- rest of the buffer is as it was, and the answer is the number of bytes written. It lies within the buffer.
-pub record Listed (text old : List ℕ) (r : ℕ) (new : List ℕ) : Type 0 where
-  pub answer : r ≡ countOf text old
-  pub bytes : new ≡ bytesOf text old
+-- A buffer with less room stays as it is, and the answer is 0. Else the text w stands at its start, the rest
+-- of the buffer is as it was, and the answer is the number of bytes written. It lies within the buffer.
+pub record ListedAs (w old : List ℕ) (r : ℕ) (new : List ℕ) : Type 0 where
+  pub answer : r ≡ pick (ltb (length old) listingRoom) 0 (length w)
+  pub bytes : new ≡ pick (ltb (length old) listingRoom) old (w ++ drop (length w) old)
   pub within : r ≤ length new
+
+abbrev pub Listed : List ℕ → List ℕ → ℕ → List ℕ → Type 0
+Listed text old r new = ListedAs (listingOf text) old r new

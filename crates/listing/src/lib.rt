@@ -34,7 +34,7 @@ fn put_tasks(out: &mut [u8], at: usize, t: Table, recs: [Record; 32]) -> usize
             forced: rec.forced,
             bound: rec.bound,
             deadline: task.deadline,
-            load: table::task_load(task.cost, task.period),
+            load: loads::task_load(task.cost, task.period),
         };
         place = task_lines::put_task(out, place, row);
         i += 1;
@@ -42,20 +42,27 @@ fn put_tasks(out: &mut [u8], at: usize, t: Table, recs: [Record; 32]) -> usize
     place
 }
 
-// The listing of an accepted plan.
-fn put_accepted(out: &mut [u8], t: Table, recs: [Record; 32], forced: u32, passes: u32) -> usize
-    requires { ⌜ LegalTable t × (length (acceptedText t recs forced passes) ≤ length (now out)) ⌝ }
-    ensures { λ r. ⌜ Put (now (out .entry)) 0 (acceptedText t recs forced passes) r (now (out .exit)) ⌝ }
+// The listing of an accepted plan, from the place `at` on.
+pub fn put_accepted(
+    out: &mut [u8],
+    at: usize,
+    t: Table,
+    recs: [Record; 32],
+    forced: u32,
+    passes: u32,
+) -> usize
+    requires { ⌜ LegalTable t × (at + length (acceptedText t recs forced passes) ≤ length (now out)) ⌝ }
+    ensures { λ r. ⌜ Put (now (out .entry)) at (acceptedText t recs forced passes) r (now (out .exit)) ⌝ }
 {
     let n = t.n;
-    let a = listing_lines::put_line_one(out, 0, t.policy, t.cores, n as u32);
+    let a = listing_lines::put_line_one(out, at, t.policy, t.cores, n as u32);
     let b = put_tasks(out, a, t, recs);
-    let total = table::total_load(t);
+    let total = loads::total_load(t);
     listing_lines::put_last(out, b, total, forced, passes)
 }
 
 // What forcing says of a legal table.
-fn put_done(out: &mut [u8], t: Table, done: Done) -> usize
+pub fn put_done(out: &mut [u8], t: Table, done: Done) -> usize
     requires { ⌜ Ready t done (now out) ⌝ }
     ensures { λ r. ⌜ Put (now (out .entry)) 0 (answerText t (done .recs) (done .answer)) r
         (now (out .exit)) ⌝ }
@@ -63,9 +70,9 @@ fn put_done(out: &mut [u8], t: Table, done: Done) -> usize
     let recs = done.recs;
     let said = done.answer;
     match said {
-        Answer::Given(v) => put_accepted(out, t, recs, v.forced, v.passes),
+        Answer::Given(v) => put_accepted(out, 0, t, recs, v.forced, v.passes),
         Answer::Refused { why, passes } => {
-            listing_lines::put_refusal(out, 0, why.number, why.place, passes)
+            refusal_line::put_refusal(out, 0, why.number, why.place, passes)
         }
     }
 }
@@ -82,6 +89,6 @@ pub fn write_listing(text: &[u8], out: &mut [u8]) -> usize
     let table = reading.table;
     match found {
         Checked::Fine => put_done(out, table, planner::legal_done(table, Job::Force)),
-        Checked::Refused(why) => listing_lines::put_refusal(out, 0, why.number, why.place, 0),
+        Checked::Refused(why) => refusal_line::put_refusal(out, 0, why.number, why.place, 0),
     }
 }

@@ -7,11 +7,11 @@ use mathlib.Core.Path.{_≡_, refl, ap, _∙_}
 use mathlib.Core.List.{_++_, append-assoc, append-nil}
 use lib.ListN.{length, length-append}
 use lib.Dec.{eqb}
-use borrow.Author.Tests.{eq-eqb, ne-eqb, eqb-true, eqb-false}
+use borrow.Author.Tests.{eq-eqb, ne-eqb}
 use Rattle.page.specs.Decimal.{decimal}
 use Rattle.page.specs.Words.{word, either, field}
 use Rattle.page.proofs.WordLaws.{either-after}
-use Rattle.listing_lines.specs.Lines.{lineOne, lastLine, refusalLine}
+use Rattle.listing_lines.specs.Lines.{lineOne, lastLine, ofForcing, refusalLine}
 
 module _ (policy cores n : ℕ) where
   pub line-one-parts : lineOne policy cores n
@@ -40,34 +40,42 @@ module _ (total forced passes : ℕ) where
   last-length = ap length last-parts ∙ simp length-append (omega arith)
 
 module _ (number place passes : ℕ) where
-  pub refusal-parts : (number ≡ 14 → ⊥)
-      → refusalLine number place passes
-      ≡ field (word "refused ") number ++ (field (word " place ") place ++ word "\n")
-  unfolding refusalLine
-  refusal-parts h = rw (ne-eqb number 14 h) (simp (append-assoc, append-nil))
+  module _ (h : ofForcing number ≡ false) where
+    pub refusal-parts : refusalLine number place passes
+        ≡ field (word "refused ") number ++ (field (word " place ") place ++ word "\n")
+    unfolding refusalLine
+    refusal-parts = rw h (simp (append-assoc, append-nil))
 
-  pub refusal-length : (number ≡ 14 → ⊥)
-      → length (refusalLine number place passes) ≡ length (decimal number) + length (decimal place) + 16
-  refusal-length h = ap length (refusal-parts h) ∙ simp length-append (omega arith)
+    pub refusal-length : length (refusalLine number place passes)
+        ≡ length (decimal number) + length (decimal place) + 16
+    refusal-length = ap length refusal-parts ∙ simp length-append (omega arith)
 
-  pub refusal-parts-14 : number ≡ 14
-      → refusalLine number place passes
-      ≡ field (word "refused ") number
-      ++ (field (word " place ") place ++ (field (word " passes ") passes ++ word "\n"))
-  unfolding refusalLine
-  refusal-parts-14 h = rw (eq-eqb number 14 h) (simp (append-assoc, append-nil))
+  module _ (h : ofForcing number ≡ true) where
+    pub forcing-parts : refusalLine number place passes
+        ≡ field (word "refused ") number
+        ++ (field (word " place ") place ++ (field (word " passes ") passes ++ word "\n"))
+    unfolding refusalLine
+    forcing-parts = rw h (simp (append-assoc, append-nil))
 
-  pub refusal-length-14 : number ≡ 14
-      → length (refusalLine number place passes)
-      ≡ length (decimal number) + length (decimal place) + length (decimal passes) + 24
-  refusal-length-14 h = ap length (refusal-parts-14 h) ∙ simp length-append (omega arith)
+    pub forcing-length : length (refusalLine number place passes)
+        ≡ length (decimal number) + length (decimal place) + length (decimal passes) + 24
+    forcing-length = ap length forcing-parts ∙ simp length-append (omega arith)
 
   -- what both kinds of refusal have in common fits in either
   pub refusal-least : length (decimal number) + length (decimal place) + 16
       ≤ length (refusalLine number place passes)
-  refusal-least = go (eqb number 14) refl
+  refusal-least = go (ofForcing number) refl
     where
-      go : (t : Bool) → eqb number 14 ≡ t
+      go : (t : Bool) → ofForcing number ≡ t
           → length (decimal number) + length (decimal place) + 16 ≤ length (refusalLine number place passes)
-      go true e = omega (arith, refusal-length-14 (eqb-true number 14 e))
-      go false e = omega (arith, refusal-length (eqb-false number 14 e))
+      go true e = omega (arith, forcing-length e)
+      go false e = omega (arith, refusal-length e)
+
+-- by the two comparisons
+pub is-fourteen : (number : ℕ) → number ≡ 14 → true ≡ ofForcing number
+unfolding ofForcing
+is-fourteen number h = rw (eq-eqb number 14 h)
+
+pub is-fifteen : (number : ℕ) → (number ≡ 14 → ⊥) → eqb number 15 ≡ ofForcing number
+unfolding ofForcing
+is-fifteen number h = rw (ne-eqb number 14 h)

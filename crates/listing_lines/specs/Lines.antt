@@ -4,10 +4,12 @@
 --   line one: policy, cores, tasks                               lineOne
 --   last line: total load, forced count, passes                  lastLine
 --   a refused plan's one line; for 14 the passes follow          refusalLine
+--   .. and for 15 (document 02, Wish 4: as for 14)               ofForcing
 --
 -- A word is `word ".."`, a number is `decimal n`, and `line` parts words by one space and ends with 0A.
 -- Assumes nothing.
 use Prim.Native.Nat.{ℕ}
+use mathlib.Core.Bool.{Bool, _||_}
 use mathlib.Core.List.{List, [], _∷_}
 use lib.Dec.{eqb}
 use Rattle.base.specs.Choice.{pick}
@@ -31,9 +33,13 @@ lastLine total forced passes =
     ∷ word "passes" ∷ decimal passes
     ∷ [])
 
+-- the refusals that forcing ends in
+unfoldable pub ofForcing : ℕ → Bool
+ofForcing number = eqb number 14 || eqb number 15
+
 unfoldable pub refusalLine : ℕ → ℕ → ℕ → List ℕ
 refusalLine number place passes =
-    pick (eqb number 14)
+    pick (ofForcing number)
     (line
     (word "refused" ∷ decimal number ∷ word "place" ∷ decimal place ∷ word "passes" ∷ decimal passes ∷ []))
     (line (word "refused" ∷ decimal number ∷ word "place" ∷ decimal place ∷ []))

@@ -1,8 +1,8 @@
-// The lines of the listing but for those of tasks, one function for each kind. Document 01, "The listing".
+// The first and the last line of the listing. Document 01, "The listing".
 ghost use Prim.Native.Nat.{_+_, _≤_};
 ghost use lib.ListN.{length};
 ghost use Rattle.buffer.specs.Put.{Put};
-ghost use Rattle.listing_lines.specs.Lines.{lineOne, lastLine, refusalLine};
+ghost use Rattle.listing_lines.specs.Lines.{lineOne, lastLine};
 
 // Line one: policy, cores, tasks.
 pub fn put_line_one(out: &mut [u8], at: usize, policy: u32, cores: u32, n: u32) -> usize
@@ -24,18 +24,4 @@ pub fn put_last(out: &mut [u8], at: usize, total: u32, forced: u32, passes: u32)
     let b = page::put_field(out, a, b" forced ", forced);
     let c = page::put_field(out, b, b" passes ", passes);
     page::put(out, c, b"\n")
-}
-
-// A refusal's line: number and place, and for 14 the passes.
-pub fn put_refusal(out: &mut [u8], at: usize, number: u32, place: u32, passes: u32) -> usize
-    requires { ⌜ at + length (refusalLine number place passes) ≤ length (now out) ⌝ }
-    ensures { λ r. ⌜ Put (now (out .entry)) at (refusalLine number place passes) r (now (out .exit)) ⌝ }
-{
-    let a = page::put_field(out, at, b"refused ", number);
-    let b = page::put_field(out, a, b" place ", place);
-    if number == 14 {
-        let c = page::put_field(out, b, b" passes ", passes);
-        return page::put(out, c, b"\n");
-    }
-    page::put(out, b, b"\n")
 }

@@ -26,54 +26,56 @@ use Rattle.planner.specs.Ways.{Verdicts, forced-yes, fourteen, testRecor
 use Rattle.planner.proofs.JoinLaws.{join-length, join-front, join-past}
 use Rattle.planner.proofs.LegalLaws.{tested-at, ended-at, none-ends-failing, legal-verdict}
 use Rattle.planner.proofs.CallLaws.{sends-legal, sends-done, fault-done, call-cases}
-use Rattle.planner.proofs.CountLaws.{Fits, room-fits}
+use Rattle.planner.proofs.CountLaws.{Counted, Fits, room-fits}
+
+-- of any answer that fits: the list is as long as before, and what is past the last task stays
+module _ {n room : ℕ} (d : Done) (fits : Fits n room d) (small : n ≤ 32) where
+  pub fits-length : (old : List Record) → length old ≡ room → length (listAfter d old) ≡ length old
+  fits-length old is =
+      join-length (d .count) (d .recs) old (omega (arith, fits .counted .long, fits .counted .most))
+      (omega (arith, fits .fits))
+
+  pub fits-rest : (old : List Record) (i : ℕ) → n ≤ i → recordAt (listAfter d old) i ≡ recordAt old i
+  fits-rest old i h =
+      join-past (d .count) (d .recs) old (omega (arith, fits .counted .long, fits .counted .most)) noRecord i
+      (omega (arith, fits .counted .most))
 
 -- a refusal leaves the list as it was
+pub refused-keeps : (n : ℕ) (d : Done) {number place passes : ℕ} → Counted n d
+    → d .answer ≡ refused number place passes → (old : List Record) → listAfter d old ≡ old
+refused-keeps n d c e old =
+    ap (λ k. take k (d .recs) ++ drop k old) (c .says ∙ ap (λ a. valuesOf n a .written) e)
+
 pub refusal-after : (c : Call) (job : Job) (room : ℕ) {number place passes : ℕ}
     → doneOf c job room .answer ≡ refused number place passes → (old : List Record)
     → listAfter (doneOf c job room) old ≡ old
-refusal-after c job room {number} {place} {passes} e old = ap (λ k. take k (done .recs) ++ drop k old) none
-  where
-    done : Done
-    done = doneOf c job room
-
-    none : done .count ≡ 0
-    none =
-        ⊎-elim
-        (λ s.
-        let d = sends-done (s .1) job room in
-        ap (λ x. x .count) d
-        ∙ room-fits (s .0) job room .counted .says
-        ∙ ap (λ a. valuesOf (s .0 .n) a .written) (ap (λ x. x .answer) (sym d) ∙ e))
-        (λ w. ap (λ x. x .count) (fault-done (w .1 .1) job room))
-        (call-cases c)
+refusal-after c job room e old =
+    ⊎-elim
+    (λ s.
+    let d = sends-done (s .1) job room in
+    ap (λ x. listAfter x old) d
+    ∙ refused-keeps (s .0 .n) (roomDone (s .0) job room) (room-fits (s .0) job room .counted)
+    (ap (λ x. x .answer) (sym d) ∙ e) old)
+    (λ w. ap (λ x. listAfter x old) (fault-done (w .1 .1) job room))
+    (call-cases c)
 
 -- a call that sends a legal table
 module _ {c : Call} {t : Table} (s : Sends c t) (job : Job) (room : ℕ) where
-  sends-fits : Fits (t .n) room (roomDone t job room)
-  sends-fits = room-fits t job room
-
-  few : roomDone t job room .count ≤ 32
-  few = omega (arith, sends-fits .counted .most, sends-legal s .count)
-
   pub length-after : (old : List Record) → length old ≡ room
       → length (listAfter (doneOf c job room) old) ≡ length old
   length-after old is =
       ap (λ d. length (listAfter d old)) (sends-done s job room)
-      ∙ join-length (roomDone t job room .count) (roomDone t job room .recs) old
-      (omega (arith, sends-fits .counted .long, few)) (omega (arith, sends-fits .fits))
+      ∙ fits-length (roomDone t job room) (room-fits t job room) (sends-legal s .count) old is
 
   -- what is past the last task stays
   pub rest-after : (old : List Record) (i : ℕ) → t .n ≤ i
       → recordAt (listAfter (doneOf c job room) old) i ≡ recordAt old i
   rest-after old i h =
       ap (λ d. recordAt (listAfter d old) i) (sends-done s job room)
-      ∙ join-past (roomDone t job room .count) (roomDone t job room .recs) old
-      (omega (arith, sends-fits .counted .long, few)) noRecord i
-      (omega (arith, sends-fits .counted .most))
+      ∙ fits-rest (roomDone t job room) (room-fits t job room) (sends-legal s .count) old i h
 
 -- a list that begins with the records of n tasks
-begins : (n : ℕ) → n ≤ 32 → (f : ℕ → Record) (k : ℕ) (rs : List Record) → k ≡ n → rs ≡ row noRecord f n
+pub begins : (n : ℕ) → n ≤ 32 → (f : ℕ → Record) (k : ℕ) (rs : List Record) → k ≡ n → rs ≡ row noRecord f n
     → (old : List Record) (i : ℕ) → i < n → recordAt (take k rs ++ drop k old) i ≡ f i
 begins n small f k rs all is old i l =
     ap₂ (λ m xs. recordAt (take m xs ++ drop m old) i) all is

@@ -2,10 +2,10 @@
 -- then.
 --
 --   document 01                                        here
---   the test of the table as sent                      testDone, by the model's test
---   forcing: final flags, last bounds, passes          forceDone, by the model's force
+--   the test of the table as sent                      testDone, by the model's test: testedBy its bounds
+--   forcing: final flags, last bounds, passes          forceDone, by the model's force: forcedBy its end
 --   a legal table is answered                          legalDone
---   13 before any test                                 roomDone
+--   13 before any test                                 roomDone: roomed
 --   a plan: the reading's refusal, or its table        planDone
 --   cores, policy and a list of tasks: 5 to 11 first   listDone of 32 places, tasksDone of the caller's list
 --   the caller's list afterwards                       listAfter
@@ -58,34 +58,47 @@ final t = force (systemOf t) (flagsOf t)
 abbrev pub ended : Table → ℕ → ℕ
 ended t = at (final t .flags)
 
+abbrev pub changedBy : Table → Final → ℕ
+changedBy t f = sumTo (changes (sent t) (at (f .flags))) (t .n)
+
 abbrev pub countForced : Table → ℕ
-countForced t = sumTo (changes (sent t) (ended t)) (t .n)
+countForced t = changedBy t (final t)
 
 -- the lowest-numbered task without a bound, 0 for none
 abbrev pub failing : Table → List ℕ → ℕ
 failing t bs = lowest (systemOf t) bs
 
--- a record for each task: the flag as given, no mark, the bound or 0; yes exactly if every task has a bound
-unfoldable pub testDone : Table → Done
-testDone t =
-    finish (t .n) (given (eqb (failing t (tested t)) 0) 0 0)
-    (recordsOf (t .n) (sent t) (λ _. 0) (at (tested t)))
+-- what a test that finds the bounds bs answers: a record for each task, with the flag as given, no mark, the
+-- bound or 0; yes exactly if every task has a bound
+abbrev pub testedBy : Table → List ℕ → Done
+testedBy t bs =
+    finish (t .n) (given (eqb (failing t bs) 0) 0 0) (recordsOf (t .n) (sent t) (λ _. 0) (at bs))
 
--- the final flags, a mark for each changed task, the bounds of the last test; or 14
+unfoldable pub testDone : Table → Done
+testDone t = testedBy t (tested t)
+
+-- what forcing that ends so answers: the final flags, a mark for each changed task, the bounds of the last
+-- test; or the refusal with that number
+abbrev pub forcedBy : ℕ → Table → Final → Done
+forcedBy number t f =
+    orElse (failing t (f .bounds))
+    (finish (t .n) (given true (changedBy t f) (f .passes))
+    (recordsOf (t .n) (at (f .flags)) (changes (sent t) (at (f .flags))) (at (f .bounds))))
+    (λ k. refuse (refusal number (suc k)) (f .passes))
+
 unfoldable pub forceDone : Table → Done
-forceDone t =
-    orElse (failing t (final t .bounds))
-    (finish (t .n) (given true (countForced t) (final t .passes))
-    (recordsOf (t .n) (ended t) (changes (sent t) (ended t)) (at (final t .bounds))))
-    (λ k. refuse (refusal 14 (suc k)) (final t .passes))
+forceDone t = forcedBy 14 t (final t)
 
 unfoldable pub legalDone : Table → Job → Done
 legalDone t Test = testDone t
 legalDone t Force = forceDone t
 
--- a legal table, with room for that many records in the caller's list
+-- what a legal table is answered where the caller's list has room for that many records: d, or 13
+abbrev pub roomed : Table → ℕ → Done → Done
+roomed t room d = pick (ltb room (t .n)) (refuse (refusal 13 0) 0) d
+
 unfoldable pub roomDone : Table → Job → ℕ → Done
-roomDone t job room = pick (ltb room (t .n)) (refuse (refusal 13 0) 0) (legalDone t job)
+roomDone t job room = roomed t room (legalDone t job)
 
 -- a fault of the reading or of the checks is the answer; else what follows is
 abbrev pub unlessFaulty : Checked → Done → Done

@@ -2,6 +2,7 @@
 // the legal table is answered. Document 01, "Testing and forcing" and "Numbered refusals".
 ghost use mathlib.Core.Path.{_≡_};
 ghost use Prim.Native.Nat.{_≤_};
+ghost use lib.ListN.{replicate};
 ghost use Rattle.base.specs.Rows.{at};
 ghost use Rattle.table.specs.Table.{LegalTable};
 ghost use Rattle.flags.specs.Flags.{flagIn, held};
@@ -9,7 +10,7 @@ ghost use Rattle.rows.specs.Held.{LegalRows};
 ghost use Rattle.planner.specs.Answers.{changes, recordsOf};
 ghost use Rattle.planner.specs.Done.{refuse, testDone, forceDone, legalDone, roomDone, planDone};
 ghost use Rattle.planner.specs.Done.{listDone};
-ghost use Rattle.planner.specs.Rows.{OfTable};
+ghost use Rattle.planner.specs.Rows.{unsaid, saidDone, OfTable};
 use flags::Flags;
 use rows::Head;
 use table::Checked;
@@ -46,6 +47,14 @@ pub struct Done {
     pub recs: [Record; 32],
 }
 
+// An answer whose records are not listed yet: the first count of them have these flags, and the bounds in a
+// row beside it.
+pub struct Said {
+    pub answer: Answer,
+    pub count: usize,
+    pub flags: Flags,
+}
+
 // What is asked for.
 pub enum Job {
     Test,
@@ -60,7 +69,7 @@ pub const NO_RECORD: Record = Record {
 };
 
 // A refusal: no record goes to the caller.
-fn refused(why: Refusal, passes: u32) -> Done
+pub fn refused(why: Refusal, passes: u32) -> Done
     ensures { λ r. ⌜ r ≡ refuse why passes ⌝ }
 {
     let answer = Answer::Refused {
@@ -74,8 +83,23 @@ fn refused(why: Refusal, passes: u32) -> Done
     }
 }
 
+// The same before any record is listed.
+pub fn unsaid(why: Refusal, passes: u32, given: Flags) -> Said
+    ensures { λ r. ⌜ r ≡ unsaid why passes given ⌝ }
+{
+    let answer = Answer::Refused {
+        why: why,
+        passes: passes,
+    };
+    Said {
+        answer: answer,
+        count: 0,
+        flags: given,
+    }
+}
+
 // A record for each of the first n tasks, with the forced mark where the flag is not the given one.
-fn records(n: usize, given: Flags, flags: Flags, bounds: &[u32; 32]) -> [Record; 32]
+pub fn records(n: usize, given: Flags, flags: Flags, bounds: &[u32; 32]) -> [Record; 32]
     requires { ⌜ n ≤ 32 ⌝ }
     ensures { λ r. ⌜ r ≡ recordsOf n (flagIn flags) (changes (flagIn given) (flagIn flags))
         (at (now (bounds .entry))) ⌝ }
@@ -104,24 +128,25 @@ fn tested<'a>(
     cost: &'a [u32; 32],
     reach: &'a [u32; 32],
     given: Flags,
-) -> Done
-    requires { ⌜ LegalRows head (now inverse) (now rest) (now cost) (now reach) ⌝ }
+    bounds: &'a mut [u32; 32],
+) -> Said
+    requires { ⌜ (LegalRows head (now inverse) (now rest) (now cost) (now reach))
+        × (now bounds ≡ replicate 32 0) ⌝ }
     ensures { λ r. ⌜ OfTable testDone head (now (inverse .entry)) (now (rest .entry)) (now (cost .entry))
-        (now (reach .entry)) given r ⌝ }
+        (now (reach .entry)) given (saidDone given r (now (bounds .exit))) ⌝ }
 {
     let n = head.n;
-    let mut bounds = [0u32; 32];
-    passes::test_rows(head, inverse, rest, cost, reach, given, &mut bounds);
-    let failing = flags::lowest_failing(flags::failing_of(n, &bounds));
+    passes::test_rows(head, inverse, rest, cost, reach, given, bounds);
+    let failing = flags::lowest_failing(flags::failing_of(n, bounds));
     let verdict = Verdict {
         yes: failing == 0,
         forced: 0,
         passes: 0,
     };
-    Done {
+    Said {
         answer: Answer::Given(verdict),
         count: n,
-        recs: records(n, given, given, &bounds),
+        flags: given,
     }
 }
 
@@ -133,22 +158,22 @@ fn forced<'a>(
     cost: &'a [u32; 32],
     reach: &'a [u32; 32],
     given: Flags,
-) -> Done
+    bounds: &'a mut [u32; 32],
+) -> Said
     requires { ⌜ (LegalRows head (now inverse) (now rest) (now cost) (now reach))
-        × (given ≡ held (flagIn given) (head .n)) ⌝ }
+        × (given ≡ held (flagIn given) (head .n)) × (now bounds ≡ replicate 32 0) ⌝ }
     ensures { λ r. ⌜ OfTable forceDone head (now (inverse .entry)) (now (rest .entry)) (now (cost .entry))
-        (now (reach .entry)) given r ⌝ }
+        (now (reach .entry)) given (saidDone given r (now (bounds .exit))) ⌝ }
 {
     let n = head.n;
-    let mut bounds = [0u32; 32];
-    let end = forcing::force_rows(head, inverse, rest, cost, reach, given, &mut bounds);
+    let end = forcing::force_rows(head, inverse, rest, cost, reach, given, bounds);
     let failing = end.failing;
     if failing != 0 {
         let why = Refusal {
             number: 14,
             place: failing,
         };
-        return refused(why, end.passes);
+        return unsaid(why, end.passes, given);
     }
     let flags = end.flags;
     let verdict = Verdict {
@@ -156,14 +181,36 @@ fn forced<'a>(
         forced: flags::count_changed(given, flags),
         passes: end.passes,
     };
-    Done {
+    Said {
         answer: Answer::Given(verdict),
         count: n,
-        recs: records(n, given, flags, &bounds),
+        flags: flags,
     }
 }
 
-// What a legal table is answered, from its rows and flags.
+// What a legal table is answered, from its rows and flags. The bounds of the records are left in the row.
+pub fn rows_said<'a>(
+    job: Job,
+    head: Head,
+    inverse: &'a [u64; 32],
+    rest: &'a [u32; 32],
+    cost: &'a [u32; 32],
+    reach: &'a [u32; 32],
+    given: Flags,
+    bounds: &'a mut [u32; 32],
+) -> Said
+    requires { ⌜ (LegalRows head (now inverse) (now rest) (now cost) (now reach))
+        × (given ≡ held (flagIn given) (head .n)) × (now bounds ≡ replicate 32 0) ⌝ }
+    ensures { λ r. ⌜ OfTable (λ t. legalDone t job) head (now (inverse .entry)) (now (rest .entry))
+        (now (cost .entry)) (now (reach .entry)) given (saidDone given r (now (bounds .exit))) ⌝ }
+{
+    match job {
+        Job::Test => tested(head, inverse, rest, cost, reach, given, bounds),
+        Job::Force => forced(head, inverse, rest, cost, reach, given, bounds),
+    }
+}
+
+// What a legal table is answered.
 pub fn legal_done(t: Table, job: Job) -> Done
     requires { ⌜ LegalTable t ⌝ }
     ensures { λ r. ⌜ r ≡ legalDone t job ⌝ }
@@ -172,11 +219,26 @@ pub fn legal_done(t: Table, job: Job) -> Done
     let mut rest = [0u32; 32];
     let mut cost = [0u32; 32];
     let mut reach = [0u32; 32];
+    let mut bounds = [0u32; 32];
     let head = rows::rows_of(t, &mut inverse, &mut rest, &mut cost, &mut reach);
     let given = flags::flags_of(t);
-    match job {
-        Job::Test => tested(head, &inverse, &rest, &cost, &reach, given),
-        Job::Force => forced(head, &inverse, &rest, &cost, &reach, given),
+    let said = rows_said(
+        job,
+        head,
+        &inverse,
+        &rest,
+        &cost,
+        &reach,
+        given,
+        &mut bounds,
+    );
+    let answer = said.answer;
+    let count = said.count;
+    let flags = said.flags;
+    Done {
+        answer: answer,
+        count: count,
+        recs: records(count, given, flags, &bounds),
     }
 }
 

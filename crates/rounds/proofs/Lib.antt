@@ -9,6 +9,7 @@ pub mod CarryLaws
 pub mod ChangeLaws
 pub mod ForcedLaws
 pub mod PassLaws
+pub mod LikeLaws
 pub mod ReadLaws
 pub mod WayLaws
 pub mod FewLaws

@@ -10,7 +10,7 @@ use lib.ListN.{set}
 use Rattle.base.specs.Rows.{at, row}
 use Rattle.base.proofs.RowLaws.{row-at, fill-start, fill-step}
 use Rattle.base.proofs.LeastLaws.{no-worse-both}
-use Rattle.model.specs.Bound.{Legal, bound}
+use Rattle.model.specs.Bound.{Legal, under, bound}
 use Rattle.model.proofs.PlaceLaws.{Places, Within, left-out}
 use Rattle.table.specs.declared.Table.{Table}
 use Rattle.table.specs.Table.{taskAt, policyOf, systemOf, LegalTable}
@@ -59,16 +59,16 @@ module _ {t : Table} {inverse rest cost reach : List ℕ} {h : Head} (legal : Le
     read : {xs : List ℕ} (f : ℕ → ℕ) → xs ≡ row 0 f (t .n) → (i : ℕ) → i < t .n → at xs i ≡ f i
     read f e i lt = ap (λ l. at l i) e ∙ row-at 0 f (t .n) i lt (legal .count)
 
-    time : (i : ℕ) → i < t .n → at cost i ≡ costOfTask t i
-    time i lt = read (costOfTask t) (is .rows .cost) i lt
+    pub rows-time : (i : ℕ) → i < t .n → at cost i ≡ costOfTask t i
+    rows-time i lt = read (costOfTask t) (is .rows .cost) i lt
 
     period : (i : ℕ) → i < t .n → at rest i + at cost i ≡ taskAt (t .tasks) i .period
     period i lt =
-        omega (arith, time i lt, read (restOfTask t) (is .rows .rest) i lt, legal .each i lt)
+        omega (arith, rows-time i lt, read (restOfTask t) (is .rows .rest) i lt, legal .each i lt)
 
-    deadline : (i : ℕ) → i < t .n → at reach i + at cost i ≡ taskAt (t .tasks) i .deadline
-    deadline i lt =
-        omega (arith, time i lt, read (reachOfTask t) (is .rows .reach) i lt, legal .each i lt)
+    pub rows-deadline : (i : ℕ) → i < t .n → at reach i + at cost i ≡ taskAt (t .tasks) i .deadline
+    rows-deadline i lt =
+        omega (arith, rows-time i lt, read (reachOfTask t) (is .rows .reach) i lt, legal .each i lt)
 
     pub table-rows : LegalRows h inverse rest cost reach
     table-rows = record {
@@ -78,49 +78,54 @@ module _ {t : Table} {inverse rest cost reach : List ℕ} {h : Head} (legal : Le
       each = λ i lt.
           let inside : i < t .n = omega (arith, is .n) in
           record {
-            time = omega (arith, time i inside, legal .each i inside);
-            deadline = omega (arith, period i inside, deadline i inside, legal .each i inside);
+            time = omega (arith, rows-time i inside, legal .each i inside);
+            deadline = omega (arith, period i inside, rows-deadline i inside, legal .each i inside);
             period = omega (arith, period i inside, legal .each i inside);
             divides =
                 read (inverseOfTask t) (is .rows .inverse) i inside ∙ ap inverseOf (sym (period i inside));
           };
     }
 
-    module _ (fl : ℕ → ℕ) (k : ℕ) (inside : k < t .n) where
+    module _ (S fl : ℕ → ℕ) (k : ℕ) (inside : k < t .n) where
       -- every place of the one is the same place of the other
       same-places : (n n′ : ℕ) → n ≡ n′ → Places (λ i. i) n n′
       same-places n n′ e = record { inside = λ i lt. omega arith; apart = λ i j a b same. same }
 
-      there : Within (systemOf t) (systemIn h rest cost reach) fl fl (λ i. i)
+      there : Within (under (systemOf t) S) (under (systemIn h rest cost reach) S) fl fl (λ i. i)
       there = record {
         policy = ap policyOf (is .policy);
         cores = is .cores;
         places = same-places (h .n) (t .n) (is .n);
         T = λ i lt. period i (omega (arith, is .n));
-        C = λ i lt. time i (omega (arith, is .n));
-        D = λ i lt. deadline i (omega (arith, is .n));
+        C = λ i lt. rows-time i (omega (arith, is .n));
+        D = λ i lt. rows-deadline i (omega (arith, is .n));
         S = λ i lt. refl;
         flag = λ i lt. refl;
         higher = inr (λ a b x y. refl);
       }
 
-      back : Within (systemIn h rest cost reach) (systemOf t) fl fl (λ i. i)
+      back : Within (under (systemIn h rest cost reach) S) (under (systemOf t) S) fl fl (λ i. i)
       back = record {
         policy = ap policyOf (sym (is .policy));
         cores = sym (is .cores);
         places = same-places (t .n) (h .n) (sym (is .n));
         T = λ i lt. sym (period i lt);
-        C = λ i lt. sym (time i lt);
-        D = λ i lt. sym (deadline i lt);
+        C = λ i lt. sym (rows-time i lt);
+        D = λ i lt. sym (rows-deadline i lt);
         S = λ i lt. refl;
         flag = λ i lt. refl;
         higher = inr (λ a b x y. refl);
       }
 
-      pub rows-bound : bound (systemIn h rest cost reach) fl k ≡ bound (systemOf t) fl k
-      rows-bound =
+      -- under any slacks
+      pub rows-under : bound (under (systemIn h rest cost reach) S) fl k ≡ bound (under (systemOf t) S) fl k
+      rows-under =
           no-worse-both _ _
-          (left-out (systemOf t) (systemIn h rest cost reach) fl fl (λ i. i) there k (omega (arith, is .n))
-          (legal .each k inside .some))
-          (left-out (systemIn h rest cost reach) (systemOf t) fl fl (λ i. i) back k inside
-          (omega (arith, time k inside, legal .each k inside .some)))
+          (left-out (under (systemOf t) S) (under (systemIn h rest cost reach) S) fl fl (λ i. i) there k
+          (omega (arith, is .n)) (legal .each k inside .some))
+          (left-out (under (systemIn h rest cost reach) S) (under (systemOf t) S) fl fl (λ i. i) back k inside
+          (omega (arith, rows-time k inside, legal .each k inside .some)))
+
+    pub rows-bound : (fl : ℕ → ℕ) (k : ℕ) → k < t .n
+        → bound (systemIn h rest cost reach) fl k ≡ bound (systemOf t) fl k
+    rows-bound = rows-under (λ i. 0)

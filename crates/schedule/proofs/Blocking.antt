@@ -18,7 +18,7 @@ use Rattle.base.proofs.SumLaws.{sum-mono, sum-part}
 use Rattle.base.proofs.OrderLaws.{le-or-lt}
 use Rattle.base.proofs.TopLaws.{Choice}
 use Rattle.schedule.specs.Schedule.{Run, done, busy, Pending, lower}
-use Rattle.schedule.proofs.Counts.{zero-unless, pos-unless, sum-zero, some-place, one-at-most}
+use Rattle.counting.proofs.Counts.{zero-unless, pos-unless, sum-zero, some-place, one-at-most}
 use Rattle.schedule.proofs.Facts.{Base, done-long, done-suc, started, no-more, spaced}
 use Rattle.schedule.proofs.Window.{alone, spent, spent-done}
 use Rattle.schedule.proofs.Waiting.{lower-edf, lower-fp, Suspect, Idle, waits}

@@ -19,7 +19,7 @@ use Rattle.base.proofs.OrderLaws.{le-or-lt}
 use Rattle.schedule.specs.Schedule.{Run, done, busy, Pending, Waits, lower, Basic, Follows}
 use Rattle.schedule.specs.OneByOne.{FollowsOneByOne}
 use Rattle.schedule.specs.Chart.{charted}
-use Rattle.schedule.proofs.Counts.{sum-zero, sum-long}
+use Rattle.counting.proofs.Counts.{sum-zero, sum-long}
 use Rattle.schedule.proofs.Waiting.{true-not-false}
 
 -- tests

@@ -13,7 +13,7 @@ use Rattle.base.specs.Sums.{sumTo}
 use Rattle.model.specs.Bound.{Policy, EDF, FP, System, Legal}
 use Rattle.schedule.specs.Schedule.{Run, done, busy, Pending, lower, lowerBy, Basic, Follows}
 use Rattle.schedule.specs.Promise.{Asked, Levels, Schedules}
-use Rattle.schedule.proofs.Counts.{flat}
+use Rattle.counting.proofs.Counts.{flat}
 use Rattle.schedule.proofs.Greedy.{
   prioBy,
   releaseAt,

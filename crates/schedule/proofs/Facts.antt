@@ -13,7 +13,7 @@ use Rattle.base.specs.Sums.{sumTo}
 use Rattle.model.specs.Bound.{System}
 use Rattle.base.proofs.OrderLaws.{le-or-lt}
 use Rattle.schedule.specs.Schedule.{Run, done, Waits, lower, Basic}
-use Rattle.schedule.proofs.Counts.{zero-unless, sum-zero, sum-long}
+use Rattle.counting.proofs.Counts.{zero-unless, sum-zero, sum-long}
 
 -- of a table: a core, and 1 ≤ C ≤ C + S ≤ D ≤ T
 pub record Fit (s : System) : Type 0 where

@@ -12,8 +12,8 @@ use Rattle.base.specs.Sums.{sumTo}
 use Rattle.model.specs.Bound.{Policy, EDF, FP, System, Legal}
 use Rattle.base.proofs.SumLaws.{sum-mono, sum-part}
 use Rattle.schedule.specs.Promise.{Asked}
-use Rattle.schedule.proofs.Counts.{zero-unless, sum-zero, sum-split}
-use Rattle.schedule.proofs.Ranks.{
+use Rattle.counting.proofs.Counts.{zero-unless, sum-zero, sum-split}
+use Rattle.counting.proofs.Ranks.{
   below,
   below-pos,
   below-yes,

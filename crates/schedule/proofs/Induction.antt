@@ -12,7 +12,7 @@ use Rattle.base.proofs.OrderLaws.{le-or-lt}
 use Rattle.schedule.specs.Schedule.{Run, done}
 use Rattle.schedule.specs.Promise.{Kept}
 use Rattle.schedule.proofs.Facts.{Base, done-long, no-more}
-use Rattle.schedule.proofs.Cover.{Length, length-of}
+use Rattle.counting.proofs.Cover.{Length, length-of}
 use Rattle.schedule.proofs.Waiting.{Suspect, Idle}
 use Rattle.schedule.proofs.Preemptive.{no-suspect-pre}
 use Rattle.schedule.proofs.NonPreemptive.{waits-throughout}

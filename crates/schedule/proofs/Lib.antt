@@ -1,8 +1,5 @@
-pub mod Counts
-pub mod Workload
 pub mod Facts
 pub mod Window
-pub mod Cover
 pub mod Waiting
 pub mod Preemptive
 pub mod Blocking
@@ -14,6 +11,5 @@ pub mod Part
 pub mod Charts
 pub mod CaseB
 pub mod Limits
-pub mod Ranks
 pub mod Greedy
 pub mod Existence

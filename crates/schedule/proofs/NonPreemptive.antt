@@ -13,10 +13,10 @@ use Rattle.base.specs.Sums.{sumTo}
 use Rattle.model.specs.Bound.{System, W, E, shareOf, blockOf, B}
 use Rattle.base.proofs.OrderLaws.{le-or-lt}
 use Rattle.schedule.specs.Schedule.{Run, done, lower}
-use Rattle.schedule.proofs.Counts.{zero-unless, eq-or}
+use Rattle.counting.proofs.Counts.{zero-unless, eq-or}
 use Rattle.schedule.proofs.Facts.{Base, done-long, done-suc, numbered}
 use Rattle.schedule.proofs.Window.{used}
-use Rattle.schedule.proofs.Cover.{from-non, share-of-non, block-of-non, covered, share-block}
+use Rattle.counting.proofs.Cover.{from-non, share-of-non, block-of-non, covered, share-block}
 use Rattle.schedule.proofs.Waiting.{
   false-unless,
   Suspect,

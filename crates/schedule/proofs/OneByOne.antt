@@ -20,7 +20,7 @@ use Rattle.model.proofs.TermLaws.{E-least}
 use Rattle.schedule.specs.Schedule.{Run, done, lower}
 use Rattle.schedule.specs.Promise.{Bounded}
 use Rattle.schedule.specs.OneByOne.{FollowsOneByOne, SoundOneByOneEDF, SoundOneByOneFP}
-use Rattle.schedule.proofs.Counts.{zero-unless, eq-or, some-place}
+use Rattle.counting.proofs.Counts.{zero-unless, eq-or, some-place}
 use Rattle.schedule.proofs.Facts.{
   Fit,
   Base,
@@ -32,7 +32,7 @@ use Rattle.schedule.proofs.Facts.{
   spaced,
 }
 use Rattle.schedule.proofs.Window.{spent, spent-done, used}
-use Rattle.schedule.proofs.Cover.{from-non, share-of-non, covered-by-shares, share-non}
+use Rattle.counting.proofs.Cover.{from-non, share-of-non, covered-by-shares, share-non}
 use Rattle.schedule.proofs.Waiting.{
   true-not-false,
   false-unless,

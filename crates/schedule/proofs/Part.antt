@@ -15,7 +15,7 @@ use Rattle.base.proofs.SumLaws.{sum-mono, sum-same}
 use Rattle.schedule.specs.Schedule.{Run, done, busy, Pending, Waits, lower, Basic, Follows}
 use Rattle.schedule.specs.Promise.{Kept}
 use Rattle.schedule.specs.Limits.{Upper, SoundPart}
-use Rattle.schedule.proofs.Counts.{zero-unless}
+use Rattle.counting.proofs.Counts.{zero-unless}
 use Rattle.schedule.proofs.Facts.{Fit}
 use Rattle.schedule.proofs.Waiting.{true-not-false, lower-fp}
 use Rattle.schedule.proofs.Induction.{keeps}

@@ -9,10 +9,10 @@ use mathlib.Core.Logic.{⊎-elim}
 use Rattle.base.specs.Sums.{sumTo}
 use Rattle.model.specs.Bound.{System, W, E, cap, shareOf, B}
 use Rattle.schedule.specs.Schedule.{Run}
-use Rattle.schedule.proofs.Counts.{eq-or, reach, rest}
+use Rattle.counting.proofs.Counts.{eq-or, reach, rest}
 use Rattle.schedule.proofs.Facts.{Base}
 use Rattle.schedule.proofs.Window.{used, spent-done}
-use Rattle.schedule.proofs.Cover.{from-pre, cap-pre, share-of, covered-by-shares, share-pre}
+use Rattle.counting.proofs.Cover.{from-pre, cap-pre, share-of, covered-by-shares, share-pre}
 use Rattle.schedule.proofs.Waiting.{
   Suspect,
   Quanta,

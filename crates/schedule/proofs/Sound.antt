@@ -15,7 +15,7 @@ use Rattle.model.proofs.BoundLaws.{bound-range}
 use Rattle.model.proofs.LowestLaws.{lowest-none}
 use Rattle.schedule.specs.Schedule.{Run, done, Follows}
 use Rattle.schedule.specs.Promise.{Bounded, Kept, Sound, SoundPassing, SoundForced}
-use Rattle.schedule.proofs.Counts.{zero-unless}
+use Rattle.counting.proofs.Counts.{zero-unless}
 use Rattle.schedule.proofs.Facts.{Fit, Base}
 use Rattle.schedule.proofs.Waiting.{waits}
 use Rattle.schedule.proofs.NonPreemptive.{no-suspect-non}

@@ -13,7 +13,7 @@ use Rattle.base.specs.Sums.{sumTo}
 use Rattle.model.specs.Bound.{EDF, FP, System, W, E, shareOf}
 use Rattle.base.proofs.OrderLaws.{le-or-lt}
 use Rattle.schedule.specs.Schedule.{Run, done, Pending, Waits, lower, lowerBy}
-use Rattle.schedule.proofs.Counts.{zero-unless, eq-or}
+use Rattle.counting.proofs.Counts.{zero-unless, eq-or}
 use Rattle.schedule.proofs.Facts.{Base, done-long}
 use Rattle.schedule.proofs.Window.{
   Past,
@@ -27,7 +27,7 @@ use Rattle.schedule.proofs.Window.{
   used-one,
   counting,
 }
-use Rattle.schedule.proofs.Cover.{Length, share-of-non, share-non}
+use Rattle.counting.proofs.Cover.{Length, share-of-non, share-non}
 
 pub true-not-false : {b : Bool} → b ≡ true → b ≡ false → ⊥
 true-not-false e e′ = let z : _≡_ {A = ℕ} 0 1 = cc in omega arith

@@ -14,7 +14,7 @@ use Rattle.base.specs.Choice.{pick}
 use Rattle.model.specs.Bound.{System, W, E}
 use Rattle.base.proofs.SumLaws.{sum-mono, sum-cap}
 use Rattle.schedule.specs.Schedule.{Run, done, busy, Pending}
-use Rattle.schedule.proofs.Counts.{
+use Rattle.counting.proofs.Counts.{
   sum-zero,
   sum-long,
   sum-split,
@@ -27,7 +27,7 @@ use Rattle.schedule.proofs.Counts.{
   weigh,
   weigh-up,
 }
-use Rattle.schedule.proofs.Workload.{edf, workload, demand}
+use Rattle.counting.proofs.Workload.{edf, workload, demand}
 use Rattle.schedule.proofs.Facts.{
   Base,
   idle-before,

@@ -1,3 +1,4 @@
+pub mod ClimbLaws
 pub mod SearchLaws
 pub mod StartLaws
 pub mod Unique

@@ -1,159 +1,105 @@
--- The climb from a q to the least that is enough. The sum grows at least as its shares must, so where the
--- line fails with no more growth than that, it fails.
+-- The climb for the sum of the shares alone: it grows at least as its shares must.
 -- Assumes nothing.
-use Prim.Native.Nat.{ℕ, _+_, _*_, _-_, _≤_, _<_, min}
+use Prim.Native.Nat.{ℕ, _+_, _≤_, _<_, min}
 use native.Mathlib.Omega.{arith}
 use native.Mathlib.Nat.{mul-le-mul}
-use mathlib.Core.Path.{_≡_, sym, subst}
-use mathlib.Core.Bool.{Bool}
+use mathlib.Core.Path.{_≡_}
 use mathlib.Core.List.{List}
-use mathlib.Core.Logic.{⊎-elim}
-use lib.Dec.{ltb}
 use lib.ListN.{length, replicate, length-replicate}
-use borrow.Author.Tests.{lt-ltb, le-ltb}
 use Rattle.base.specs.Rows.{at}
 use Rattle.base.specs.Sums.{sumTo}
-use Rattle.base.proofs.OrderLaws.{le-or-lt}
 use Rattle.base.proofs.SumLaws.{sum-mono, sum-add, sum-same, sum-cap}
-use Rattle.base.proofs.LeastLaws.{least-is, least-none}
-use Rattle.chord.specs.Jump.{grown, Over, Jumped}
-use Rattle.chord.proofs.JumpLaws.{jumped-same}
+use Rattle.chord.specs.Jump.{grown}
+use Rattle.chord.proofs.JumpLaws.{grown-same}
 use Rattle.shares.specs.declared.Whole.{Whole}
 use Rattle.shares.specs.Shares.{shareAt, growthAt}
 use Rattle.shares.specs.Rows.{Evaluable, Evaluated}
 use Rattle.shares.proofs.ShareLaws.{share-small, share-grows, growth-small}
 use Rattle.search.specs.Search.{leastQ, Searchable, NoneBelow}
+use Rattle.search.proofs.ClimbLaws.{leastBelow, Climbing, Turn}
 
--- what the loop of `seek` knows at q
-pub record Seeking (rest cost reach cap : List ℕ) (used m ahead last : ℕ) (row line : List ℕ) (q : ℕ) : Type 0
-  where
-    pub low : 1 ≤ q
-    pub none : NoneBelow rest cost reach cap used m ahead last q
-    pub row-size : length row ≡ 32
-    pub line-size : length line ≡ 32
+abbrev pub sumAt : List ℕ → List ℕ → List ℕ → List ℕ → ℕ → ℕ → ℕ → ℕ
+sumAt rest cost reach cap used ahead q = sumTo (shareAt rest cost reach cap ahead q) used
+
+-- two rows of 32 numbers, to work in
+pub record Roomy (row line : List ℕ) : Type 0 where
+  pub row-size : length row ≡ 32
+  pub line-size : length line ≡ 32
+
+pub roomy-start : Roomy (replicate 32 0) (replicate 32 0)
+roomy-start = record {
+  row-size = length-replicate {A = ℕ} 32 0;
+  line-size = length-replicate {A = ℕ} 32 0;
+}
 
 module _ {inverse rest cost reach cap : List ℕ} {used m ahead last : ℕ}
     (ok : Searchable inverse rest cost reach cap used m ahead last) where
-  abbrev sumAt : ℕ → ℕ
-  sumAt q = sumTo (shareAt rest cost reach cap ahead q) used
-
-  abbrev line-is : ℕ → Bool
-  line-is q = ltb (sumAt q) (m * q)
-
-  -- the sum grows as its shares must
-  sum-grows : (q d : ℕ) → q ≤ last
-      → sumAt q + grown (growthAt rest cost reach cap ahead q) used d ≤ sumAt (q + d)
-  unfolding grown
-  sum-grows q d le =
-      omega (
-        arith,
-        sum-add (shareAt rest cost reach cap ahead q)
-            (λ i. min d (growthAt rest cost reach cap ahead q i)) used,
-        sum-mono
-            (λ i. shareAt rest cost reach cap ahead q i + min d (growthAt rest cost reach cap ahead q i))
-            (shareAt rest cost reach cap ahead (q + d)) used
-            (λ i lt. share-grows rest cost reach cap ahead q i (ok .each i lt) (omega (arith, ok .range)) d),
-      )
-
   pub seek-start : {from : ℕ} → NoneBelow rest cost reach cap used m ahead last from → 1 ≤ from
-      → Seeking rest cost reach cap used m ahead last (replicate 32 0) (replicate 32 0) from
-  seek-start none low = record {
-    low = low;
-    none = none;
-    row-size = length-replicate {A = ℕ} 32 0;
-    line-size = length-replicate {A = ℕ} 32 0;
-  }
+      → Climbing (sumAt rest cost reach cap used ahead) m last from
+  seek-start none low = record { low = low; room = none .room; fails = none .fails }
 
-  module _ {row line : List ℕ} {q : ℕ} (a : Seeking rest cost reach cap used m ahead last row line q) where
-    -- past the last
-    pub seek-none : last < q → 0 ≡ leastQ rest cost reach cap used m ahead last
-    unfolding leastQ
-    seek-none out =
-        sym
-        (least-none line-is last 1
-        (λ j lo hi. le-ltb (sumAt j) (m * j) (a .none .fails j lo (omega arith))))
+  pub seek-least : {r : ℕ} → r ≡ leastBelow (sumAt rest cost reach cap used ahead) m last
+      → r ≡ leastQ rest cost reach cap used m ahead last
+  unfolding leastQ
+  seek-least e = e
 
-    module _ (within : q ≤ last) where
-      pub seek-evaluable : Evaluable inverse rest cost reach cap used ahead q row line
-      seek-evaluable = record {
-        used = ok .few;
-        range = omega (arith, ok .range);
-        each = ok .each;
-        caps = ok .caps;
-        row-size = a .row-size;
-        line-size = a .line-size;
-      }
+  module _ {q : ℕ} (within : q ≤ last) where
+    pub seek-evaluable : {row line : List ℕ} → Roomy row line
+        → Evaluable inverse rest cost reach cap used ahead q row line
+    seek-evaluable rows = record {
+      used = ok .few;
+      range = omega (arith, ok .range);
+      each = ok .each;
+      caps = ok .caps;
+      row-size = rows .row-size;
+      line-size = rows .line-size;
+    }
 
-      pub seek-small : m * q ≤ 16000000
-      seek-small = omega (arith, mul-le-mul (ok .cores) (let z : q ≤ 1000000 = omega (arith, ok .range) in z))
+    module _ {r : Whole} {row line : List ℕ} (ev : Evaluated rest cost reach cap used ahead q r row line)
+      where
+        pub seek-roomy : Roomy row line
+        seek-roomy = record { row-size = ev .row-size; line-size = ev .line-size }
 
-      module _ {r : Whole} {row′ line′ : List ℕ}
-          (ev : Evaluated rest cost reach cap used ahead q r row′ line′) where
-        pub seek-found : r .sum < m * q → q ≡ leastQ rest cost reach cap used m ahead last
-        unfolding leastQ
-        seek-found lt =
-            sym
-            (least-is line-is last 1 q (a .low) (omega arith)
-            (lt-ltb (sumAt q) (m * q) (omega (arith, ev .sum)))
-            (λ j lo hi. le-ltb (sumAt j) (m * j) (a .none .fails j lo hi)))
+        pub sum-most : r .sum ≤ 32000000
+        sum-most =
+            omega (
+              arith,
+              ev .sum,
+              sum-cap (shareAt rest cost reach cap ahead q) q used
+                  (λ i lt. share-small rest cost reach cap ahead q i),
+              mul-le-mul (ok .few) (let z : q ≤ 1000000 = omega (arith, ok .range) in z),
+            )
 
-        module _ (fails : m * q ≤ r .sum) where
-          pub seek-over : Over (at row′) used m (r .sum - m * q) (r .all) (last + 1 - q)
-          seek-over = record {
-            some-core = ok .some-core;
-            cores = ok .cores;
-            used = ok .few;
-            small = omega (arith, ev .sum, sum-most);
-            whole = omega (arith, ev .all, all-most);
-            sum = omega (arith, ev .all, sum-same (at row′) _ used (ev .growth));
-            some = omega arith;
-            range = omega (arith, ok .range);
-          }
-            where
-              sum-most : sumAt q ≤ 32000000
-              sum-most =
-                  omega (
-                    arith,
-                    sum-cap (shareAt rest cost reach cap ahead q) q used
-                        (λ i lt. share-small rest cost reach cap ahead q i),
-                    mul-le-mul (ok .few) (let z : q ≤ 1000000 = omega (arith, ok .range) in z),
-                  )
+        pub row-small : (i : ℕ) → i < used → at row i ≤ 1000000
+        row-small i lt =
+            omega (arith, ev .growth i lt, growth-small rest cost reach cap ahead q i (ok .caps i lt))
 
-              all-most : sumTo (growthAt rest cost reach cap ahead q) used ≤ 32000000
-              all-most =
-                  omega (
-                    arith,
-                    sum-cap (growthAt rest cost reach cap ahead q) 1000000 used
-                        (λ i lt. growth-small rest cost reach cap ahead q i (ok .caps i lt)),
-                    ok .few,
-                  )
+        pub all-is : r .all ≡ sumTo (at row) used
+        all-is = omega (arith, ev .all, sum-same (at row) _ used (ev .growth))
 
-          module _ {d : ℕ} (jump : Jumped (at row′) used m (r .sum - m * q) (last + 1 - q) d) where
-            past : (e : ℕ) → e < d → m * (q + e) ≤ sumAt (q + e)
-            past e lt =
-                omega (
-                  arith,
-                  jumped-same (ev .growth) jump .fails e lt,
-                  ev .sum,
-                  sum-grows q e within,
-                )
+        -- the sum grows as its shares must
+        pub sum-grows : (d : ℕ) → sumAt rest cost reach cap used ahead q + grown (at row) used d
+            ≤ sumAt rest cost reach cap used ahead (q + d)
+        unfolding grown
+        sum-grows d =
+            omega (
+              arith,
+              grown-same (ev .growth) d,
+              sum-add (shareAt rest cost reach cap ahead q)
+                  (λ i. min d (growthAt rest cost reach cap ahead q i)) used,
+              sum-mono
+                  (λ i. shareAt rest cost reach cap ahead q i
+                  + min d (growthAt rest cost reach cap ahead q i))
+                  (shareAt rest cost reach cap ahead (q + d)) used
+                  (λ i lt. share-grows rest cost reach cap ahead q i (ok .each i lt)
+                  (omega (arith, ok .range)) d),
+            )
 
-            below : (j : ℕ) → 1 ≤ j → j < q + d → m * j ≤ sumAt j
-            below j lo hi =
-                ⊎-elim
-                (λ (h : q ≤ j).
-                let z : q + (j - q) ≡ j = omega arith in
-                subst (λ x. m * x ≤ sumAt x) z (past (j - q) (omega arith)))
-                (λ (h : j < q). a .none .fails j lo h)
-                (le-or-lt q j)
-
-            pub seek-up : (q < q + d) × (q + d ≤ last + 1)
-            seek-up = (omega (arith, jump .up), omega (arith, jump .room))
-
-            pub seek-on : Seeking rest cost reach cap used m ahead last row′ line′ (q + d)
-            seek-on = record {
-              low = omega (arith, a .low);
-              none = record { room = seek-up .1; fails = below };
-              row-size = ev .row-size;
-              line-size = ev .line-size;
-            }
+        pub seek-turn : Turn (sumAt rest cost reach cap used ahead) used m q (r .sum) (r .all) row
+        seek-turn = record {
+          is = ev .sum;
+          small = omega (arith, sum-most, ev .sum);
+          whole = omega (arith, all-is, sum-cap (at row) 1000000 used row-small, ok .few);
+          growths = omega (arith, all-is);
+          grows = sum-grows;
+        }

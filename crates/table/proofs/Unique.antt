@@ -7,10 +7,6 @@ use Rattle.table.proofs.task_fault.Kinds as task-fault
 use Rattle.table.proofs.task_fault.Reads as task-fault-reads
 use Rattle.table.proofs.check_table.Kinds as check-table
 use Rattle.table.proofs.check_table.Reads as check-table-reads
-use Rattle.table.proofs.task_load.Kinds as task-load
-use Rattle.table.proofs.task_load.Reads as task-load-reads
-use Rattle.table.proofs.total_load.Kinds as total-load
-use Rattle.table.proofs.total_load.Reads as total-load-reads
 
 pub head-fault-only : Only 0 head-fault.ps head-fault.r head-fault-reads.Post
 head-fault-only κs a x y s s′ p q = only p q
@@ -20,9 +16,3 @@ task-fault-only κs a x y s s′ p q = only p q
 
 pub check-table-only : Only 0 check-table.ps check-table.r check-table-reads.Post
 check-table-only κs a x y s s′ p q = only p q
-
-pub task-load-only : Only 0 task-load.ps task-load.r task-load-reads.Post
-task-load-only κs a x y s s′ p q = only p q
-
-pub total-load-only : Only 0 total-load.ps total-load.r total-load-reads.Post
-total-load-only κs a x y s s′ p q = only p q

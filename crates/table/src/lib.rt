@@ -1,9 +1,6 @@
-// Tasks and tables by value, the checks 5 to 11 of document 01 in their order, and the loads.
+// Tasks and tables by value, and the checks 5 to 11 of document 01 in their order.
 ghost use mathlib.Core.Path.{_≡_};
-ghost use Prim.Native.Nat.{_≤_, _<_};
-ghost use Rattle.table.specs.Table.{LegalTable};
 ghost use Rattle.table.specs.Checks.{outside, headFault, taskFault, checkOf};
-ghost use Rattle.table.specs.Load.{load, totalLoad};
 
 // A task as it is given: any numbers, so that a wrong one can be named.
 pub struct Task {
@@ -111,28 +108,4 @@ pub fn check_table(t: Table) -> Checked
         i += 1;
     }
     Checked::Fine
-}
-
-// The load of a task, rounded up.
-pub fn task_load(cost: u32, period: u32) -> u32
-    requires { ⌜ (cost ≤ 1000000) × (0 < period) × (period ≤ 1000000) ⌝ }
-    ensures { λ r. ⌜ r ≡ load cost period ⌝ }
-{
-    (1000 * cost + (period - 1)) / period
-}
-
-// The sum of the tasks' loads.
-pub fn total_load(t: Table) -> u32
-    requires { ⌜ LegalTable t ⌝ }
-    ensures { λ r. ⌜ r ≡ totalLoad t ⌝ }
-{
-    let n = t.n;
-    let mut total: u32 = 0;
-    let mut i: usize = 0;
-    while i < n {
-        let task = t.tasks[i];
-        total += task_load(task.cost, task.period);
-        i += 1;
-    }
-    total
 }

@@ -16,13 +16,14 @@ use Rattle.table.proofs.LoadLaws.{loadAt-small, loads-small}
 use Rattle.planner.specs.declared.Record.{Record}
 use Rattle.planner.specs.declared.Job.the-variants.{Test}
 use Rattle.planner.specs.Answers.{noRecord, recordAt, recordsOf}
-use Rattle.planner.specs.Done.{sent, tested, failing, testDone, legalDone}
+use Rattle.planner.specs.Done.{sent, tested, failing, testedBy, testDone, legalDone}
 use Rattle.planner.proofs.LegalLaws.{tested-at}
 use Rattle.listing_lines.specs.Lines.{lineOne}
 use Rattle.listing_lines.proofs.LineLaws.{line-one-length}
 use Rattle.listing.proofs.FitLaws.{two, four, five, seven, either-short, lines-cap}
 use Rattle.test_listing.specs.TestListing.{saysOf, testRow, testLineAt, testLast, testText}
-use Rattle.test_listing.specs.TestListing.{testBy, testRoom}
+use Rattle.test_listing.specs.TestListing.{testBy}
+use Rattle.listing.specs.Listing.{listingRoom}
 use Rattle.test_listing.proofs.LineLaws.{bound-short, task-length, last-length}
 
 module _ (t : Table) (legal : LegalTable t) where
@@ -60,9 +61,9 @@ module _ (t : Table) (legal : LegalTable t) where
           four (loadAt t i) (omega (arith, loadAt-small t legal i lt)),
         )
 
-    text-fits : (says : ℕ) → length (testText t rs says) ≤ testRoom
+    text-most : (says : ℕ) → length (testText t rs says) ≤ 1687
     unfolding testText
-    text-fits says =
+    text-most says =
         simp length-append
         (omega (
           arith,
@@ -71,6 +72,14 @@ module _ (t : Table) (legal : LegalTable t) where
           total-fits says,
           legal .count,
         ))
+
+  -- a test with bounds of few digits
+  pub tested-most : (bs : List ℕ) → ((i : ℕ) → i < t .n → at bs i ≤ 1000000)
+      → length (testBy t (testedBy t bs .recs) (testedBy t bs .answer)) ≤ 1687
+  tested-most bs small =
+      text-most (recordsOf (t .n) (sent t) (λ _. 0) (at bs))
+      (λ i lt. rw (row-at noRecord _ (t .n) i lt (legal .count)) (small i lt))
+      (saysOf (eqb (failing t bs) 0))
 
   bounds-small : (i : ℕ) → i < t .n → at (tested t) i ≤ 1000000
   bounds-small i lt =
@@ -83,9 +92,6 @@ module _ (t : Table) (legal : LegalTable t) where
         h .period,
       )
 
-  pub legal-fits : length (testBy t (legalDone t Test .recs) (legalDone t Test .answer)) ≤ testRoom
+  pub legal-fits : length (testBy t (legalDone t Test .recs) (legalDone t Test .answer)) ≤ listingRoom
   unfolding legalDone testDone
-  legal-fits =
-      text-fits (recordsOf (t .n) (sent t) (λ _. 0) (at (tested t)))
-      (λ i lt. rw (row-at noRecord _ (t .n) i lt (legal .count)) (bounds-small i lt))
-      (saysOf (eqb (failing t (tested t)) 0))
+  legal-fits = omega (arith, tested-most (tested t) bounds-small)

@@ -1,11 +1,10 @@
 -- The ways through the writing of a listing: which text each answer has, and what the buffer then holds.
 -- Assumes nothing.
-use Prim.Native.Nat.{ℕ, _+_, _≤_, _<_}
+use Prim.Native.Nat.{ℕ, _+_, _≤_}
 use native.Mathlib.Omega.{arith}
 use mathlib.Core.Path.{_≡_, sym, ap, subst, _∙_}
 use mathlib.Core.List.{List}
 use lib.ListN.{length, length-append}
-use borrow.Author.Tests.{lt-ltb, le-ltb}
 use Rattle.table.specs.Table.{LegalTable}
 use Rattle.table.specs.declared.Table.{Table}
 use Rattle.table.specs.declared.Refusal.{Refusal}
@@ -19,9 +18,9 @@ use Rattle.planner.specs.declared.Job.the-variants.{Test}
 use Rattle.planner.specs.Done.{legalDone, planDone}
 use Rattle.planner.proofs.StageLaws.{room-enough}
 use Rattle.buffer.specs.Put.{Put}
-use Rattle.buffer.proofs.PutLaws.{put-then, put-start, put-length}
+use Rattle.buffer.proofs.PutLaws.{put-then}
 use Rattle.listing_lines.specs.Lines.{lineOne, refusalLine}
-use Rattle.listing.specs.Listing.{linesTo}
+use Rattle.listing.specs.Listing.{linesTo, listingRoom}
 use Rattle.listing.proofs.FitLaws.{refusal-fits}
 use Rattle.table.specs.Load.{totalLoad}
 use Rattle.test_listing.specs.TestListing.{
@@ -30,8 +29,6 @@ use Rattle.test_listing.specs.TestListing.{
   testText,
   testBy,
   testOf,
-  testRoom,
-  TestListed,
 }
 use Rattle.test_listing.proofs.FitLaws.{legal-fits}
 
@@ -86,7 +83,7 @@ module _ (text : List ℕ) where
         → refusalLine (why .number) (why .place) 0 ≡ testOf text
     listing-faulty fault = listing-refused (ap (λ (x : Reading). x .answer) (sym re) ∙ fault)
 
-    pub refusal-ready : {why : Refusal} {n : ℕ} → r .answer ≡ Faulty why → testRoom ≤ n
+    pub refusal-ready : {why : Refusal} {n : ℕ} → r .answer ≡ Faulty why → listingRoom ≤ n
         → 0 + length (refusalLine (why .number) (why .place) 0) ≤ n
     refusal-ready {why} {n} fault enough =
         let small : (why .number ≤ 12) × (why .place ≤ 34) =
@@ -98,7 +95,7 @@ module _ (text : List ℕ) where
         )
 
 -- a legal table's listing fits
-pub table-ready : {t : Table} {d : Done} {n : ℕ} → LegalTable t → d ≡ legalDone t Test → testRoom ≤ n
+pub table-ready : {t : Table} {d : Done} {n : ℕ} → LegalTable t → d ≡ legalDone t Test → listingRoom ≤ n
     → LegalTable t × (length (testBy t (d .recs) (d .answer)) ≤ n)
 table-ready {t} {d} legal de enough = (
   legal,
@@ -108,23 +105,3 @@ table-ready {t} {d} legal de enough = (
     ap (λ (x : Done). length (testBy t (x .recs) (x .answer))) de,
   ),
 )
-
--- the buffer then
-module _ {text old : List ℕ} where
-  pub listed-short : length old < testRoom → TestListed text old 0 old
-  listed-short h = record {
-    answer = rw (lt-ltb (length old) testRoom h);
-    bytes = rw (lt-ltb (length old) testRoom h);
-    within = omega arith;
-  }
-
-  module _ (enough : testRoom ≤ length old) where
-    pub listed-put : {w new : List ℕ} {r : ℕ} → w ≡ testOf text → Put old 0 w r new
-        → TestListed text old r new
-    listed-put e p =
-        let q = put-start p in
-        record {
-          answer = rw (le-ltb (length old) testRoom enough, ← e) (q .0);
-          bytes = rw (le-ltb (length old) testRoom enough, ← e) (q .1);
-          within = omega (arith, p .fits, p .next, put-length p);
-        }

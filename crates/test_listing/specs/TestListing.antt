@@ -11,11 +11,9 @@
 --
 -- Assumes nothing.
 use Prim.Native.Nat.{ℕ, _+_, _≤_}
-use mathlib.Core.Path.{_≡_}
 use mathlib.Core.Bool.{Bool}
 use mathlib.Core.List.{List, [], _∷_, _++_}
-use lib.ListN.{length, drop}
-use lib.Dec.{ltb}
+use lib.ListN.{length}
 use Rattle.base.specs.Choice.{pick}
 use Rattle.page.specs.Decimal.{decimal}
 use Rattle.page.specs.Words.{word, either, line}
@@ -31,7 +29,7 @@ use Rattle.planner.specs.declared.Answer.the-variants.{Given, Refused}
 use Rattle.planner.specs.Answers.{recordAt}
 use Rattle.planner.specs.Done.{planDone}
 use Rattle.listing_lines.specs.Lines.{lineOne, refusalLine}
-use Rattle.listing.specs.Listing.{linesTo}
+use Rattle.listing.specs.Listing.{linesTo, ListedAs}
 use Rattle.test_listing.specs.declared.TestRow.{TestRow}
 
 -- after the flag: the bound, or none where it is 0
@@ -86,17 +84,9 @@ testBy t rs (Refused why passes) = refusalLine (why .number) (why .place) passes
 unfoldable pub testOf : List ℕ → List ℕ
 testOf text = testBy (readOf text .table) (planDone text Test 32 .recs) (planDone text Test 32 .answer)
 
--- every listing fits in so many bytes
-abbrev pub testRoom : ℕ
-testRoom = 2048
-
 -- a legal table and what the test says of it, with room for its listing in the buffer
 abbrev pub Ready : Table → Done → List ℕ → Type 0
 Ready t d out = LegalTable t × (length (testBy t (d .recs) (d .answer)) ≤ length out)
 
--- A buffer with less room stays as it is, and the answer is 0. Else the listing stands at its start, the
--- rest of the buffer is as it was, and the answer is the number of bytes written. It lies within the buffer.
-pub record TestListed (text old : List ℕ) (r : ℕ) (new : List ℕ) : Type 0 where
-  pub answer : r ≡ pick (ltb (length old) testRoom) 0 (length (testOf text))
-  pub bytes : new ≡ pick (ltb (length old) testRoom) old (testOf text ++ drop (length (testOf text)) old)
-  pub within : r ≤ length new
+abbrev pub TestListed : List ℕ → List ℕ → ℕ → List ℕ → Type 0
+TestListed text old r new = ListedAs (testOf text) old r new

@@ -15,9 +15,6 @@ use planner::Record;
 use table::Checked;
 use table::Table;
 
-// Every listing fits in so many bytes.
-pub const TEST_ROOM: usize = 2048;
-
 // What a task's line shows.
 struct TestRow {
     number: u32,
@@ -70,7 +67,7 @@ fn put_rows(out: &mut [u8], at: usize, t: Table, recs: [Record; 32]) -> usize
             flag: rec.flag,
             bound: rec.bound,
             deadline: task.deadline,
-            load: table::task_load(task.cost, task.period),
+            load: loads::task_load(task.cost, task.period),
         };
         place = put_row(out, place, row);
         i += 1;
@@ -103,12 +100,12 @@ fn put_tested(out: &mut [u8], t: Table, recs: [Record; 32], says: u32) -> usize
     let n = t.n;
     let a = listing_lines::put_line_one(out, 0, t.policy, t.cores, n as u32);
     let b = put_rows(out, a, t, recs);
-    let total = table::total_load(t);
+    let total = loads::total_load(t);
     put_last(out, b, total, says)
 }
 
 // What the test says of a legal table.
-fn put_done(out: &mut [u8], t: Table, done: Done) -> usize
+pub fn put_done(out: &mut [u8], t: Table, done: Done) -> usize
     requires { ⌜ Ready t done (now out) ⌝ }
     ensures { λ r. ⌜ Put (now (out .entry)) 0 (testBy t (done .recs) (done .answer)) r (now (out .exit)) ⌝ }
 {
@@ -117,7 +114,7 @@ fn put_done(out: &mut [u8], t: Table, done: Done) -> usize
     match said {
         Answer::Given(v) => put_tested(out, t, recs, says_of(v.yes)),
         Answer::Refused { why, passes } => {
-            listing_lines::put_refusal(out, 0, why.number, why.place, passes)
+            refusal_line::put_refusal(out, 0, why.number, why.place, passes)
         }
     }
 }
@@ -126,7 +123,7 @@ fn put_done(out: &mut [u8], t: Table, done: Done) -> usize
 pub fn write_test(text: &[u8], out: &mut [u8]) -> usize
     ensures { λ r. ⌜ TestListed (now (text .entry)) (now (out .entry)) r (now (out .exit)) ⌝ }
 {
-    if out.len() < TEST_ROOM {
+    if out.len() < listing::LISTING_ROOM {
         return 0;
     }
     let reading = reader::read_plan(text);
@@ -134,6 +131,6 @@ pub fn write_test(text: &[u8], out: &mut [u8]) -> usize
     let table = reading.table;
     match found {
         Checked::Fine => put_done(out, table, planner::legal_done(table, Job::Test)),
-        Checked::Refused(why) => listing_lines::put_refusal(out, 0, why.number, why.place, 0),
+        Checked::Refused(why) => refusal_line::put_refusal(out, 0, why.number, why.place, 0),
     }
 }

@@ -1,8 +1,10 @@
--- What writing is, over its promise: each theorem states one sentence of document 02, Wish 1.
+-- What writing is, over its promise: each theorem states one sentence of document 02, Wish 1, or Wish 6 where
+-- it says so.
 --
 --   document 02                                                       theorem
 --   reading what was written gives the same table                     read-back, cleared-same
---   writing what was read gives the same bytes                        write-back, read-fits
+--   writing what was read gives the raised text (Wish 6)              write-back, read-fits
+--   the writer stays with upper case (Wish 6)                         written-raised
 --   5 to 11, then 16, each exactly when its words hold; else the end  way-exact
 --   16 exactly when                                                   sixteen-exact
 --   nothing is written where it refuses                               refused-stays
@@ -232,6 +234,12 @@ module _ {t : Table} {old : List ℕ} {at : ℕ} where
     -- writing what was read
     pub write-back : (text : List ℕ) → readOf text ≡ accepted t → between at e new ≡ raised text
     write-back text q = written-text ∙ sym (reading-exact text t .0 q .same)
+
+    -- what was written is in upper case
+    pub written-raised : raised (between at e new) ≡ between at e new
+    written-raised =
+        reading-exact (between at e new) (cleared t) .0 read-back .same
+        ∙ sym (written-text ∙ cleared-text t (ended .legal .count))
 
 -- what was read is written wherever its text has room: the answer is the end place
 pub read-fits : (text : List ℕ) (t : Table) (len at : ℕ) → readOf text ≡ accepted t → at + length text ≤ len

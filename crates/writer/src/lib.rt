@@ -1,12 +1,10 @@
-// Writing a plan: the checks of a table, the room that its text needs, and then line after line, each into
-// the part of the buffer that starts after the last line written. Document 02, Wish 1.
+// Writing a plan: the checks of a table, the room that its text needs, the head line and then the task lines.
+// Document 02, Wish 1.
 ghost use mathlib.Core.Path.{_≡_};
-ghost use Prim.Native.Nat.{_+_, _≤_};
-ghost use lib.ListN.{length, take};
-ghost use Rattle.table.specs.Table.{LegalTask, LegalTable};
-ghost use Rattle.buffer.specs.Put.{Put};
+ghost use lib.ListN.{take};
+ghost use Rattle.table.specs.Table.{LegalTable};
 ghost use Rattle.lines.specs.Form.{form1};
-ghost use Rattle.lines.specs.Writes.{headBytes, taskBytes, tasksText, planText};
+ghost use Rattle.lines.specs.Writes.{headBytes, planText};
 ghost use Rattle.writer.specs.Written.{tableFrom, TextPut, WroteAs};
 use table::Checked;
 use table::Refusal;
@@ -47,51 +45,6 @@ fn head_frame(t: Table) -> [u8; 16]
     ]
 }
 
-// The frame of a task line without its check: its first 14 bytes.
-fn task_frame(t: Task) -> [u8; 16]
-    requires { ⌜ LegalTask t ⌝ }
-    ensures { λ r. ⌜ take 14 r ≡ taskBytes form1 t ⌝ }
-{
-    let flag = t.flag as u8;
-    let p = t.period;
-    let c = t.cost;
-    let d = t.deadline;
-    [
-        2,
-        flag,
-        (p / 16777216) as u8,
-        (p / 65536 % 256) as u8,
-        (p / 256 % 256) as u8,
-        (p % 256) as u8,
-        (c / 16777216) as u8,
-        (c / 65536 % 256) as u8,
-        (c / 256 % 256) as u8,
-        (c % 256) as u8,
-        (d / 16777216) as u8,
-        (d / 65536 % 256) as u8,
-        (d / 256 % 256) as u8,
-        (d % 256) as u8,
-        0,
-        0,
-    ]
-}
-
-// The task lines, from the place `at` on; the answer is the place after them.
-fn put_tasks(out: &mut [u8], at: usize, t: Table) -> usize
-    requires { ⌜ LegalTable t × (at + length (tasksText form1 (t .tasks) (t .n)) ≤ length (now out)) ⌝ }
-    ensures { λ r. ⌜ Put (now (out .entry)) at (tasksText form1 (t .tasks) (t .n)) r (now (out .exit)) ⌝ }
-{
-    let n = t.n;
-    let mut next = at;
-    let mut i: usize = 0;
-    while i < n {
-        let frame = task_frame(t.tasks[i]);
-        next += frame_writer::put_line(&mut out[next..], frame, 14);
-        i += 1;
-    }
-    next
-}
-
 // A legal table's text, or 16 where there is too little room for it. The start may be any number.
 fn put_text(t: Table, out: &mut [u8], at: usize) -> Written
     requires { ⌜ LegalTable t ⌝ }
@@ -111,7 +64,7 @@ fn put_text(t: Table, out: &mut [u8], at: usize) -> Written
     }
     let frame = head_frame(t);
     let first = frame_writer::put_line(&mut out[at..], frame, 4);
-    Written::End(put_tasks(out, at + first, t))
+    Written::End(lines_writer::put_tasks(out, at + first, t))
 }
 
 // The plan of a table, from the place `at` of the buffer on. A refusal writes nothing; else the bytes before

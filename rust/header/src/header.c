@@ -33,6 +33,38 @@ void header_force_tasks(uint32_t cores, uint32_t policy, const eskihrum_task *ta
     hand_on(eskihrum_force_tasks(cores, policy, tasks, n, records, room), told);
 }
 
+/* Both jobs under the second edition: the round count is handed on by itself. */
+uint32_t header_plan_2(int force, const uint8_t *text, size_t bytes, eskihrum_record *records, size_t room,
+                       uint32_t told[FIELDS]) {
+    eskihrum_answer answer = force ? eskihrum_force_plan_2(text, bytes, records, room)
+                                   : eskihrum_test_plan_2(text, bytes, records, room);
+    hand_on(answer, told);
+    return answer.rounds;
+}
+
+uint32_t header_tasks_2(int force, uint32_t cores, uint32_t policy, const eskihrum_task *tasks, size_t n,
+                        eskihrum_record *records, size_t room, uint32_t told[FIELDS]) {
+    eskihrum_answer answer = force ? eskihrum_force_tasks_2(cores, policy, tasks, n, records, room)
+                                   : eskihrum_test_tasks_2(cores, policy, tasks, n, records, room);
+    hand_on(answer, told);
+    return answer.rounds;
+}
+
+/* What is answered of the fewest cores: their number is handed on by itself. */
+uint32_t header_fewest_plan(const uint8_t *text, size_t bytes, eskihrum_record *records, size_t room,
+                            uint32_t told[FIELDS]) {
+    eskihrum_answer answer = eskihrum_fewest_plan(text, bytes, records, room);
+    hand_on(answer, told);
+    return answer.cores;
+}
+
+uint32_t header_fewest_tasks(uint32_t cores, uint32_t policy, const eskihrum_task *tasks, size_t n,
+                             eskihrum_record *records, size_t room, uint32_t told[FIELDS]) {
+    eskihrum_answer answer = eskihrum_fewest_tasks(cores, policy, tasks, n, records, room);
+    hand_on(answer, told);
+    return answer.cores;
+}
+
 /* What a writer answers: the end place is handed on by itself. */
 size_t header_write_tasks(uint32_t cores, uint32_t policy, const eskihrum_task *tasks, size_t n,
                           uint8_t *buffer, size_t bytes, size_t start, uint32_t told[FIELDS]) {
@@ -87,7 +119,7 @@ uint32_t header_reserved(const uint8_t *text, size_t bytes, eskihrum_record *rec
     for (size_t i = 0; i < sizeof answer.reserved / sizeof answer.reserved[0]; i++) all |= answer.reserved[i];
     for (size_t i = 0; i < sizeof answer.reserved2 / sizeof answer.reserved2[0]; i++)
         all |= answer.reserved2[i];
-    return all | answer.end_low | answer.end_high;
+    return all | answer.rounds | answer.cores | answer.end_low | answer.end_high;
 }
 
 const char *header_text(uint32_t number) {

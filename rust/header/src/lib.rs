@@ -40,6 +40,40 @@ extern "C" {
         room: usize,
         told: *mut Told,
     );
+    fn header_plan_2(
+        force: c_int,
+        text: *const u8,
+        bytes: usize,
+        records: *mut Record,
+        room: usize,
+        told: *mut Told,
+    ) -> u32;
+    fn header_tasks_2(
+        force: c_int,
+        cores: u32,
+        policy: u32,
+        tasks: *const Task,
+        n: usize,
+        records: *mut Record,
+        room: usize,
+        told: *mut Told,
+    ) -> u32;
+    fn header_fewest_plan(
+        text: *const u8,
+        bytes: usize,
+        records: *mut Record,
+        room: usize,
+        told: *mut Told,
+    ) -> u32;
+    fn header_fewest_tasks(
+        cores: u32,
+        policy: u32,
+        tasks: *const Task,
+        n: usize,
+        records: *mut Record,
+        room: usize,
+        told: *mut Told,
+    ) -> u32;
     fn header_write_tasks(
         cores: u32,
         policy: u32,
@@ -136,6 +170,43 @@ pub fn counted(
     // SAFETY: the lists are lent for the call alone, and hold as many things as the call looks at.
     unsafe { run(cores, policy, start(tasks), n, start_mut(records), room, &mut told) };
     told
+}
+
+/// The test, or forcing, of a plan under the second edition: the answer, and its rounds.
+pub fn plan_2(force: bool, text: &[u8], records: &mut [Record]) -> (Told, u32) {
+    let (room, mut told) = (records.len(), Told::default());
+    // SAFETY: the lists are lent for the call alone.
+    let rounds =
+        unsafe { header_plan_2(force.into(), start(text), text.len(), start_mut(records), room, &mut told) };
+    (told, rounds)
+}
+
+/// The test, or forcing, of a list of tasks under the second edition: the answer, and its rounds.
+pub fn tasks_2(force: bool, head: [u32; 2], tasks: &[Task], records: &mut [Record]) -> (Told, u32) {
+    let ([cores, policy], n, room, mut told) = (head, tasks.len(), records.len(), Told::default());
+    let (force, list, to) = (force.into(), start(tasks), start_mut(records));
+    // SAFETY: the lists are lent for the call alone.
+    let rounds = unsafe { header_tasks_2(force, cores, policy, list, n, to, room, &mut told) };
+    (told, rounds)
+}
+
+/// The fewest cores for a plan: the answer, and their number.
+pub fn fewest_plan(text: &[u8], records: &mut [Record]) -> (Told, u32) {
+    let (bytes, room) = (text.len(), records.len());
+    let mut told = Told::default();
+    // SAFETY: the lists are lent for the call alone.
+    let cores = unsafe { header_fewest_plan(start(text), bytes, start_mut(records), room, &mut told) };
+    (told, cores)
+}
+
+/// The fewest cores for a list of tasks: the answer, and their number.
+pub fn fewest_tasks(cores: u32, policy: u32, tasks: &[Task], records: &mut [Record]) -> (Told, u32) {
+    let (n, room) = (tasks.len(), records.len());
+    let mut told = Told::default();
+    // SAFETY: the lists are lent for the call alone.
+    let cores =
+        unsafe { header_fewest_tasks(cores, policy, start(tasks), n, start_mut(records), room, &mut told) };
+    (told, cores)
 }
 
 /// A list of tasks as a plan, from a place of the buffer on: the answer, and its end place.

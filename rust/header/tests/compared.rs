@@ -1,9 +1,10 @@
 //! The header's functions and macros against the second program.
 
-use eskihrum_header::{older_plan, older_tasks, plan, tasks, write_changed, write_tasks};
+use eskihrum_header::{older_plan, older_tasks, plan, plan_2, tasks, tasks_2, write_changed, write_tasks};
 use eskihrum_header::{Record, Task, Told};
 use second::compare::{short, Compared, Planner, FORCE};
 use second::compare_writing::{compared, Said, Writer};
+use second::edition2_compare as editions;
 
 /// The second program's one number for an answer: number, place, forced and passes a byte each, then yes.
 fn word(told: Told) -> u64 {
@@ -76,6 +77,47 @@ fn told(way: &str, seed: u64, compared: Compared) {
         Ok(calls) => println!("{way}: {calls} calls agree, seed {seed}"),
         Err(difference) => panic!("{way}, seed {seed}: {difference}"),
     }
+}
+
+/// Either edition, by the header's functions.
+struct Header;
+
+fn in_edition(numbers: &mut [u32], run: impl FnOnce(&mut [Record]) -> (Told, u32)) -> editions::Said {
+    let mut kept = (Told::default(), 0);
+    as_records(numbers, |room| {
+        kept = run(room);
+        kept.0
+    });
+    let (Told { passes, forced, yes, place, number, .. }, rounds) = kept;
+    editions::Said { number, place, yes: yes == 1, forced, passes, rounds }
+}
+
+impl editions::Planner for Header {
+    fn text(&self, job: u32, edition: u32, text: &[u8], records: &mut [u32]) -> editions::Said {
+        in_edition(records, |room| match edition {
+            1 => (plan(job == FORCE, text, room), 0),
+            _ => plan_2(job == FORCE, text, room),
+        })
+    }
+
+    fn list(
+        &self,
+        job: u32,
+        edition: u32,
+        head: [u32; 2],
+        numbers: &[u32],
+        records: &mut [u32],
+    ) -> editions::Said {
+        in_edition(records, |room| match edition {
+            1 => (tasks(job == FORCE, head[0], head[1], &listed(numbers), room), 0),
+            _ => tasks_2(job == FORCE, head, &listed(numbers), room),
+        })
+    }
+}
+
+#[test]
+fn header_agrees_under_both_editions() {
+    told("header, both editions", 312, editions::short(&Header, 312));
 }
 
 #[test]

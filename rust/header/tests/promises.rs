@@ -2,7 +2,7 @@
 //! headers of checks/wrong.
 
 use eskihrum_header::{advice, counted, numbers, older_plan, older_tasks, plan, reserved, tasks, text};
-use eskihrum_header::{places, write_changed, write_tasks, Record, Task, Told};
+use eskihrum_header::{places, plan_2, tasks_2, write_changed, write_tasks, Record, Task, Told};
 
 const B: &[u8] = include_bytes!("../../../examples/b.plan");
 /// The longest plan: 32 tasks in 1,003 bytes.
@@ -50,6 +50,20 @@ fn forcing_forces() {
         assert_eq!(told, given(1, 2, 3, 2));
         assert_eq!(room, [B_FORCED[0], B_FORCED[1], KEPT]);
     }
+}
+
+/// Under the second edition case b passes as sent, in three rounds; case f ends in 15, and i is accepted.
+#[test]
+fn the_second_edition_has_its_rounds() {
+    let mut room = [KEPT; 3];
+    assert_eq!(plan_2(false, B, &mut room), (given(1, 0, 0, 2), 3));
+    assert_eq!(room, [[1, 0, 4], [1, 0, 17], KEPT]);
+    assert_eq!(plan_2(true, B, &mut room), (given(1, 0, 1, 2), 3));
+    assert_eq!(tasks_2(false, [1, EDF], &TASKS, &mut room), (given(0, 0, 0, 2), 2));
+    assert_eq!(tasks_2(true, [1, EDF], &TASKS, &mut room), (refused(15, 1, 3), 0));
+    assert_eq!(plan_2(true, I, &mut room), (given(1, 0, 1, 3), 3));
+    assert_eq!(plan_2(true, I, &mut room[..2]), (refused(13, 0, 0), 0));
+    assert_eq!(tasks_2(true, [17, FP], &TASKS, &mut room), (refused(5, 0, 0), 0));
 }
 
 #[test]

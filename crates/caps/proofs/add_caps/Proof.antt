@@ -3,7 +3,7 @@
 -- Assumes nothing.
 use Prim.Native.Nat.{_+_, _-_, _≤_}
 use native.Mathlib.Omega.{arith}
-use mathlib.Core.Path.{refl}
+use mathlib.Core.Path.{_≡_}
 use borrow.Author.Needs.{needs}
 use Rattle.base.specs.Rows.{at}
 use Rattle.table.specs.Table.{policyOf}
@@ -66,11 +66,15 @@ loop-again c =
     let a = high .before .before .before in
     let read = a .before .before .before in
     let s = read .before in
-    let g = s .args in (
+    let g = s .args in
+    let here = s .pre .0 .each (a .loop .i) (high .before .before .loop-test .taken) in (
       omega arith,
       filled-step (a .loop .inv .1) (omega (arith, s .pre .0 .count))
-          (cap-read (systemIn (g .head) (g .rest .now) (g .cost .now) (g .reach .now)) (flagIn (g .flags))
-          (at (g .cap .now)) (g .k) (a .loop .i) refl (c .before .cap-for .ensures)
+          (cap-read (systemIn (g .head) (g .rest .now) (g .cost .now) (g .reach .now)) (g .k) (a .loop .i)
+          (here .time) (omega arith) (omega (arith, here .deadline)) (flagIn (g .flags)) (at (g .cap .now))
+          (let e : at (g .reach .now) (g .k) + at (g .cost .now) (g .k)
+          ≡ at (g .reach .now) (g .k) + at (g .cost .now) (g .k) - 0 = omega arith in e)
+          (c .before .cap-for .ensures)
           (high .before .flag-at2 .ensures) (read .flag-at .ensures) (high .higher .ensures)
           (a .loop .inv .1 .rest (a .loop .i) (omega arith))),
     )

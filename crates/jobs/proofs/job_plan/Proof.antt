@@ -1,20 +1,18 @@
--- `jobs::job_plan` meets its contract: the answer by value, told.
+-- `jobs::job_plan` meets its contract: the answer in parts, told.
 -- Assumes nothing.
-use Rattle.planner.proofs.CountLaws.{plan-small}
-use Rattle.flat.proofs.FlatLaws.{flat-fits}
-use Rattle.jobs.proofs.JobLaws.{plan-told}
 use borrow.Author.Needs.{needs}
+use Rattle.planner.proofs.CountLaws.{plan-small}
+use Rattle.jobs.proofs.JobLaws.{few-asked, told-whole}
 use Rattle.jobs.proofs.job_plan.Statement.{statement}
 use Rattle.jobs.proofs.job_plan.Tie as tie
 
 tell-requires : tie.Need-tell-requires
-tell-requires c κs =
-    flat-fits _ _ _ (c .before .before .plan-done .ensures) (plan-small _ _ _)
+tell-requires c κs = few-asked (c .before .before .before .plan-asked .ensures) (plan-small _ _ _)
 
 returns : tie.Need-returns
 returns c =
-    plan-told _ _ _ _ _ _ _ _ (c .before .before .before .before .before .before .before .plan-done .ensures)
-    (c .before .before .before .before .tell .ensures)
+    let tell = c .before .before in
+    told-whole (tell .before .before .before .before .plan-asked .ensures) (tell .tell .ensures)
 
 pub job-plan-spec : {M : Type 1} → statement M
 job-plan-spec =

@@ -9,7 +9,8 @@ put-accepted-requires : tie.Need-put-accepted-requires
 put-accepted-requires c κs =
     let said = c .before .before in
     let s = said .before .before .before .before in
-    (s .pre .0, rw (said .said .given .1) at (s .pre .1))
+    let fits = rw (said .said .given .1) at (s .pre .1) in
+    (s .pre .0, omega (arith, fits))
 
 put-refusal-requires : tie.Need-put-refusal-requires
 put-refusal-requires c κs =

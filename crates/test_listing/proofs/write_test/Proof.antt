@@ -7,9 +7,8 @@ use Rattle.test_listing.proofs.ListedLaws.{
   listing-faulty,
   refusal-ready,
   table-ready,
-  listed-short,
-  listed-put,
 }
+use Rattle.listing.proofs.ListedLaws.{listed-short, listed-put}
 use Rattle.test_listing.proofs.write_test.Statement.{statement}
 use Rattle.test_listing.proofs.write_test.Tie as tie
 

@@ -3,7 +3,7 @@
 use native.Mathlib.Omega.{arith}
 use denote.Ref.{now}
 use borrow.Author.Needs.{needs}
-use Rattle.writer.proofs.PartLaws.{rest-room, put-rest}
+use Rattle.lines_writer.proofs.RestLaws.{rest-room, put-rest}
 use Rattle.writer.proofs.PlanLaws.{past-full, short-full, tasks-room, text-put}
 use Rattle.writer.proofs.put_text.Statement.{statement}
 use Rattle.writer.proofs.put_text.Tie as tie

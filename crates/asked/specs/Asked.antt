@@ -1,0 +1,46 @@
+-- Either job, from rows and flags to the caller's numbers.
+--
+--   rows and flags that can be answered                        Answerable loaded ..
+--   the answer to each table that was loaded so                Answered job room loaded .. d
+--   an answer in parts, and the caller's numbers afterwards    AskedAs d old r new
+--   the promises of the calls                                  PlanAsked, TasksAsked
+--
+-- Assumes nothing.
+use Prim.Native.Nat.{ℕ, _/_}
+use mathlib.Core.Path.{_≡_}
+use mathlib.Core.List.{List}
+use lib.ListN.{length}
+use Rattle.table.specs.declared.Table.{Table}
+use Rattle.table.specs.declared.Checked.the-variants.{Fine}
+use Rattle.table.specs.Table.{LegalTable}
+use Rattle.flags.specs.Flags.{flagIn, held}
+use Rattle.rows.specs.Held.{LegalRows}
+use Rattle.planner.specs.declared.Done.{Done}
+use Rattle.planner.specs.declared.Job.{Job}
+use Rattle.planner.specs.Done.{roomDone, unlessFaulty, planDone, listDone}
+use Rattle.flat.specs.Flat.{countIn, tasksIn, flatAfter}
+use Rattle.loading.specs.declared.Loaded.{Loaded}
+use Rattle.loading.specs.Loaded.{LoadedAs}
+use Rattle.asked.specs.declared.Asked.{Asked}
+
+abbrev pub Answerable : Loaded → List ℕ → List ℕ → List ℕ → List ℕ → Type 0
+Answerable r inverses rests costs reaches =
+    r .answer ≡ Fine
+    → LegalRows (r .head) inverses rests costs reaches × (r .given ≡ held (flagIn (r .given)) (r .head .n))
+
+abbrev pub Answered : Job → ℕ → Loaded → List ℕ → List ℕ → List ℕ → List ℕ → Done → Type 0
+Answered job room r inverses rests costs reaches d =
+    (t : Table) → (r .answer ≡ Fine → LegalTable t) → LoadedAs (r .answer) t r inverses rests costs reaches
+    → d ≡ unlessFaulty (r .answer) (roomDone t job room)
+
+pub record AskedAs (d : Done) (old : List ℕ) (r : Asked) (new : List ℕ) : Type 0 where
+  pub answer : r .answer ≡ d .answer
+  pub count : r .count ≡ d .count
+  pub records : new ≡ flatAfter d old
+
+abbrev pub PlanAsked : Job → List ℕ → List ℕ → Asked → List ℕ → Type 0
+PlanAsked job text old r new = AskedAs (planDone text job (length old / 3)) old r new
+
+abbrev pub TasksAsked : Job → ℕ → ℕ → List ℕ → List ℕ → Asked → List ℕ → Type 0
+TasksAsked job cores policy xs old r new =
+    AskedAs (listDone cores policy (countIn (length xs)) (tasksIn xs) job (length old / 3)) old r new

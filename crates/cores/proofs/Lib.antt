@@ -1,0 +1,2 @@
+pub mod MoreCores
+pub mod TableCores

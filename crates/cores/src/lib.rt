@@ -1,0 +1,1 @@
+// Laws and definitions alone: more cores, and the fewest. No function.

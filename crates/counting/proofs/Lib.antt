@@ -1,0 +1,4 @@
+pub mod Counts
+pub mod Cover
+pub mod Ranks
+pub mod Workload

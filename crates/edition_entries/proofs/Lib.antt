@@ -1,0 +1,4 @@
+pub mod Passed
+pub mod Loads
+pub mod Listed
+pub mod Unique

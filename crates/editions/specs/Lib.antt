@@ -1,0 +1,2 @@
+pub mod Editions
+pub mod Ways

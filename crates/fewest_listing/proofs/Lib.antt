@@ -1,0 +1,3 @@
+pub mod FoundLaws
+pub mod ListedLaws
+pub mod Theorems

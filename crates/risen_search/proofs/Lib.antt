@@ -1,0 +1,2 @@
+pub mod RisenSearchLaws
+pub mod Unique

@@ -1,0 +1,3 @@
+pub mod RoundChangeLaws
+pub mod Theorems
+pub mod Unique

@@ -1,0 +1,4 @@
+pub mod ChangeLaws
+pub mod PassingLaws
+pub mod TableLaws
+pub mod Unique

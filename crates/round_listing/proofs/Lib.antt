@@ -1,0 +1,4 @@
+pub mod GainLaws
+pub mod FitLaws
+pub mod RoundLaws
+pub mod Theorems

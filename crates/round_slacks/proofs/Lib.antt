@@ -1,0 +1,3 @@
+pub mod OnlyLaws
+pub mod MoveLaws
+pub mod Unique

@@ -1,0 +1,3 @@
+pub mod PastLaws
+pub mod UnderLaws
+pub mod Unique

@@ -1,0 +1,3 @@
+pub mod DifferLaws
+pub mod SlackCapLaws
+pub mod Unique
