@@ -2,9 +2,9 @@
  * with a pattern; what the call overwrote is counted, less what a thread that does nothing overwrites.
  *
  * The plan is read from the standard input. `stack` prints the bytes of a test, of forcing, of forcing with
- * an answer of its own, and of that under edition 2; `stack write` those of the two calls that write a plan: the plan's tasks, and
- * the plan as changed by forcing. Link it with -z now: otherwise the first call of memcpy, which the system
- * looks up then, counts with some kilobytes. */
+ * an answer of its own, of that under edition 2, and of the fewest cores; `stack write` those of the two calls
+ * that write a plan: the plan's tasks, and the plan as changed by forcing. Link it with -z now: otherwise the
+ * first call of memcpy, which the system looks up then, counts with some kilobytes. */
 #include <pthread.h>
 #include <stdio.h>
 #include <stdlib.h>
@@ -45,6 +45,12 @@ static void *force_answer(void *job) {
 static void *force_second(void *job) {
     eskihrum_flat_force_plan_2(text, length, records, sizeof records / sizeof *records, answer,
                                sizeof answer / sizeof *answer);
+    return job;
+}
+
+static void *fewest(void *job) {
+    eskihrum_flat_fewest_plan(text, length, records, sizeof records / sizeof *records, answer,
+                              sizeof answer / sizeof *answer);
     return job;
 }
 
@@ -96,8 +102,9 @@ int main(int count, char **words) {
     if (count == 2 && strcmp(words[1], "write") == 0) {
         printf("tasks %zu changed %zu\n", used(write_tasks) - empty, used(write_changed) - empty);
     } else {
-        printf("test %zu force %zu answer %zu edition 2 %zu\n", used(test) - empty, used(force) - empty,
-               used(force_answer) - empty, used(force_second) - empty);
+        printf("test %zu force %zu answer %zu edition 2 %zu fewest %zu\n", used(test) - empty,
+               used(force) - empty, used(force_answer) - empty, used(force_second) - empty,
+               used(fewest) - empty);
     }
     return 0;
 }

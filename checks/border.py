@@ -48,7 +48,7 @@ IN_RUST = {
     "&mut [u32]": ["{}: *mut u32", "{}_len: usize"],
 }
 # What the definition's numbers are called in C and Rust; every other one is 0.
-FIELD = {name: name for name in ("number", "place", "forced", "passes", "records")} | {
+FIELD = {name: name for name in ("number", "place", "forced", "passes", "records", "word")} | {
     "passing": "yes",
     "end % 4294967296": "end_low",
     "end / 4294967296": "end_high",

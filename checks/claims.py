@@ -14,7 +14,7 @@ import sys
 
 ROOT = pathlib.Path(__file__).resolve().parent.parent
 PAPER = ROOT / "docs" / "CLAIMS.md"
-FRONT_CRATES = ("claims", "claims_writing", "claims_rounds", "claims_cores")
+FRONT_CRATES = ("claims", "claims_writing", "claims_rounds", "claims_cores", "claims_word")
 FRONTS = [ROOT / "crates" / crate / "proofs" / "FrontPage.antt" for crate in FRONT_CRATES]
 FOLDERS = "docs|crates|checks|examples|corpus|second|rust|bench|include|tools"
 LINK = re.compile(r"\[`([^`]+)`\]\(\.\./([\w/.+-]+)#L(\d+)\)")

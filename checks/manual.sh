@@ -41,6 +41,7 @@ offers() { # WANTED WORD..: the last word is the one that is begun
 }
 offers "chart " ./plan char
 offers "explain " ./plan exp
+offers "manifest " ./plan man
 offers "examples/b.listing examples/b.plan " ./plan chart examples/b.
 offers "--edition --help --version " ./plan --
 offers "-o " ./plan chart -o

@@ -18,6 +18,8 @@ runs() {
     same "$2: b" "$(cat examples/b.listing)" "$(cd "$room" && PATH=$room/bare "$1" b.plan 2>&1)"
     same "$2: d" "$(cat examples/d.listing)" "$(cd "$room" && PATH=$room/bare "$1" d.plan 2>/dev/null)"
     same "$2: hint" "$(./plan examples/d.plan 2>&1)" "$(cd "$room" && PATH=$room/bare "$1" d.plan 2>&1)"
+    same "$2: manifest" "$(./plan manifest examples/b.plan)" \
+        "$(cd "$room" && PATH=$room/bare "$1" manifest b.plan 2>&1)"
     same "$2: explain" "$(./plan explain 3 2)" "$(PATH=$room/bare "$1" explain 3 2 2>&1)"
     same "$2: chart" "$(cd "$room" && PATH=$room/bare "$1" chart b.plan 2>&1 | sha256sum)" \
         "$(here=$PWD; cd "$room" && "$here/plan" chart b.plan | sha256sum)"

@@ -228,6 +228,58 @@ echo before >"$room/kept"
 gives 1 ./plan apply $d -o "$room/kept"
 [ "$(cat "$room/kept")" = before ] || fail "apply -o: the file was touched by a refusal"
 
+# ---- manifest: each digest is that of the real bytes, the word is by bits, and one reading serves all.
+sum_of() { sha256sum | cut -d ' ' -f 1; }
+# manifest_of PLAN WORD COUNTS: what the manifest of a plan has to be, from the plan and the other verbs.
+manifest_of() {
+    printf 'eskihrum %s edition 1\nsent sha256 %s\n' "$(cat VERSION)" "$(sum_of <"$1")"
+    printf 'install sha256 %s\nlisting sha256 %s\n' "$(./plan apply "$1" | sum_of)" "$(./plan "$1" | sum_of)"
+    printf 'word %s\naccepted %s\n' "$2" "$3"
+}
+while read -r plan word counts; do
+    manifest_of "$plan" "$word" "$counts" >"$room/manifest"
+    gives 0 ./plan manifest "$plan"
+    holds "$room/manifest"
+    said ''
+done <<EOF
+examples/c.plan 00000000 forced 0 passes 1
+$most AAAAAAAA forced 0 passes 1
+$small 00000003 forced 2 passes 3
+$b 00000003 forced 2 passes 3
+EOF
+# Letters count in what was sent, and in nothing else; what is installed is in upper case.
+sh_gives 0 './plan manifest $small | grep -v "^sent "'
+grep -v '^sent ' "$room/manifest" >"$room/upper"
+holds "$room/upper"
+sh_gives 0 './plan manifest <$b'
+holds "$room/manifest"
+sh_gives 0 'cat $b | ./plan manifest -'
+holds "$room/manifest"
+# A file that is another plan as soon as it has been read: a `head` that replaces it stands in for who did.
+mkdir "$room/late"
+printf '#!/bin/sh\n%s "$@"\ncp %s "%s"\n' "$(command -v head)" $most "$room/changes" >"$room/late/head"
+chmod +x "$room/late/head"
+sh_gives 0 'cp $b "$room/changes"; PATH=$room/late:$PATH ./plan manifest "$room/changes"'
+holds "$room/manifest"
+cmp -s "$room/changes" $most || fail "the plan of the manifest was not replaced after it was read"
+sh_gives 0 '{ cat $b >"$room/pipe" & timeout 20 ./plan manifest "$room/pipe"; }'
+holds "$room/manifest"
+# -o, and refusals: as for the listing, and no manifest.
+gives 0 ./plan manifest $b -o "$room/kept"
+wrote ''
+cmp -s "$room/kept" "$room/manifest" || fail "manifest -o: not the manifest"
+echo before >"$room/kept"
+gives 1 ./plan manifest -o "$room/kept" $d
+wrote 'refused 14 place 1 passes 2'
+said "$told_14"
+sh_gives 2 '{ cat $b; echo; } | ./plan manifest -o "$room/kept"'
+wrote 'refused 12 place 4'
+said 'plan: line 4 (after task 2, the last): bytes follow the last line [plan explain 12]'
+gives 2 ./plan manifest $nine
+wrote 'refused 9 place 3'
+said "$told_9"
+[ "$(cat "$room/kept")" = before ] || fail "manifest -o: the file was touched by a refusal"
+
 # ---- Edition 2: sums of document 02, worked out apart from the programs. checks/editions.sh has more plans.
 gives 0 ./plan --edition 2 $b
 wrote 'plan FP cores 1 tasks 2
@@ -269,7 +321,7 @@ gives 3 ./plan --edition
 said 'plan: --edition takes 1 or 2 [plan --help]'
 gives 3 ./plan --edition 2 --edition 2 $b
 said 'plan: --edition was given twice [plan --help]'
-for words in chart cores show make explain; do
+for words in chart cores manifest show make explain; do
     gives 3 ./plan $words --edition 2 9
     said "plan: $words has edition 1 only [plan --help]"
 done

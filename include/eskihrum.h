@@ -37,7 +37,7 @@ extern "C" {
 /* The project's version, and what this header knows of the archive. An archive serves it exactly if
  * eskihrum_abi() is at least ESKIHRUM_ABI: calls and numbers are added, and never change their meaning. */
 #define ESKIHRUM_VERSION "0.2.0"
-#define ESKIHRUM_ABI 4
+#define ESKIHRUM_ABI 5
 
 /* A table has at most so many tasks; room for so many records is always enough. */
 #define ESKIHRUM_TASKS 32
@@ -75,10 +75,11 @@ typedef struct eskihrum_answer {
     uint32_t records;      /* how many records were written: one for each task, or 0 in a refusal */
     uint32_t rounds;       /* edition 2: how many rounds the last test had, with a no too; 0 in a refusal */
     uint32_t cores;        /* the fewest cores with which forcing accepts, where they were asked for */
-    uint32_t reserved[1];  /* 0 */
+    uint32_t word;         /* the flags in the records as one word: bit 0 for task 1, a 1 for non-preemptive,
+                              zeros from bit n up; 0 in a refusal */
     uint32_t end_low;      /* the place after the last byte written into a buffer: eskihrum_end puts */
     uint32_t end_high;     /* its two halves together */
-    uint32_t reserved2[5]; /* 0 */
+    uint32_t reserved[5];  /* 0 */
 } eskihrum_answer;
 
 /* Each field stands where the archive has its number. */
@@ -100,6 +101,7 @@ ESKIHRUM_AT(eskihrum_answer, passes, 4);
 ESKIHRUM_AT(eskihrum_answer, records, 5);
 ESKIHRUM_AT(eskihrum_answer, rounds, 6);
 ESKIHRUM_AT(eskihrum_answer, cores, 7);
+ESKIHRUM_AT(eskihrum_answer, word, 8);
 ESKIHRUM_AT(eskihrum_answer, end_low, 9);
 ESKIHRUM_AT(eskihrum_answer, end_high, 10);
 ESKIHRUM_HOLDS(sizeof(eskihrum_answer) == 16 * sizeof(uint32_t));
@@ -178,7 +180,7 @@ static inline size_t eskihrum_numbers(size_t n, size_t most, size_t size) {
 
 /* An answer of which nothing is said yet. */
 static inline eskihrum_answer eskihrum_no_answer(void) {
-    const eskihrum_answer none = {0, 0, 0, 0, 0, 0, 0, 0, {0}, 0, 0, {0, 0, 0, 0, 0}};
+    const eskihrum_answer none = {0, 0, 0, 0, 0, 0, 0, 0, 0, 0, 0, {0, 0, 0, 0, 0}};
     return none;
 }
 
@@ -213,7 +215,8 @@ static inline eskihrum_answer eskihrum_test_plan(const void *text, size_t bytes,
 }
 
 /* Forcing of a plan: makes preemptive tasks without a bound non-preemptive, and tests again. Where it
- * accepts, the records have the flags at the end: these are to be installed. A refusal writes none. */
+ * accepts, the records have the flags at the end, and answer.word has them in one word: these are to be
+ * installed. A refusal writes none, and its word is 0. */
 static inline eskihrum_answer eskihrum_force_plan(const void *text, size_t bytes, eskihrum_record *records,
                                                   size_t room) {
     return eskihrum_ask_plan(eskihrum_flat_force_plan, text, bytes, records, room);

@@ -89,6 +89,12 @@ keep_text() {
     return 3
 }
 
+# The sha256 of standard input.
+digest() {
+    sum=$(sha256sum) || { say "sha256sum failed"; return 3; }
+    printf '%s\n' "${sum%% *}"
+}
+
 # ready_to_list: the program that lists plans is there: the printer under edition 1, the desk under edition 2.
 ready_to_list() {
     case $edition in 2) ready desk ;; *) ready ;; esac

@@ -35,6 +35,7 @@ cat <<'EOF'
 .nf
 plan < b.plan
 plan cores b.plan
+plan manifest b.plan \-o release.manifest
 plan apply b.plan \-o release.plan
 plan show b.plan | plan make | cmp \- b.plan
 plan chart b.plan \-o b.svg

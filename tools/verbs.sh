@@ -74,6 +74,32 @@ verb_apply() {
     answer "$listing"
 }
 
+# What a release is held to. FILE is read once, and every question goes to what was read; the manifest is
+# written whole, after the last answer.
+verb_manifest() {
+    ready desk
+    ready
+    ask "${1:--}"
+    status=$?
+    case $status in
+        0) ;;
+        1 | 2) refuse "$listing"; hint ''; return "$status" ;;
+        *) return "$status" ;;
+    esac
+    verdict=${listing##*total load }
+    sent=$(digest <"$text") || return 3
+    listed=$(printf '%s\n' "$listing" | digest) || return 3
+    desk_says apply || return
+    install=$(printf '%s\n' "$listing" | digest) || return 3
+    desk_says word || return
+    answer "eskihrum $(cat "$root/VERSION") edition 1
+sent sha256 $sent
+install sha256 $install
+listing sha256 $listed
+$listing
+accepted ${verdict#* }"
+}
+
 # A plan as a table that people edit, and such a table as a plan.
 verb_show() {
     ask_desk show "${1:--}" || return

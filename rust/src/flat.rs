@@ -24,13 +24,15 @@ pub const RECORDS: usize = 5;
 pub const ROUNDS: usize = 6;
 /// The place of the fewest cores, where they were asked for.
 pub const CORES: usize = 7;
+/// The place of the flags in the records as one word: bit 0 for task 1, a 1 for non-preemptive.
+pub const WORD: usize = 8;
 /// The place of the low 32 bits of the end place in a buffer.
 pub const END_LOW: usize = 9;
 /// The place of its high 32 bits.
 pub const END_HIGH: usize = 10;
 
 /// What this wrapper knows of the archive: calls and numbers of an answer are only ever added.
-pub const ABI: u32 = 4;
+pub const ABI: u32 = 5;
 
 // checks/border.py compares these declarations with the archive's source.
 extern "C" {

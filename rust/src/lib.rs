@@ -18,7 +18,7 @@
 //! assert!(!test_tasks(1, Policy::Fp, &tasks, &mut room)?.yes);
 //!
 //! let forced = force_tasks(1, Policy::Fp, &tasks, &mut room)?;
-//! assert_eq!((forced.count, forced.passes), (2, 3));
+//! assert_eq!((forced.count, forced.passes, forced.word), (2, 3, 0b11));
 //! assert_eq!(forced.records[0], Record { flag: 0, forced: 1, bound: 12 });
 //!
 //! let refusal = force_tasks(1, Policy::Edf, &tasks, &mut room).unwrap_err();
@@ -134,6 +134,8 @@ pub struct Forced<'a> {
     pub count: u32,
     /// How many tests of the whole table were made, the last included.
     pub passes: u32,
+    /// The flags in the records as one word: bit 0 for task 1, a 1 for non-preemptive, zeros from bit n up.
+    pub word: u32,
     /// For each task its flag at the end, a mark if it was changed, and the bound of the last test.
     pub records: &'a [Record],
 }
@@ -251,8 +253,8 @@ fn tested(answer: Answer, refusal: fn(&Answer) -> Refusal, room: &[Record]) -> R
 
 fn forced(answer: Answer, refusal: fn(&Answer) -> Refusal, room: &[Record]) -> Result<Forced<'_>, Refusal> {
     unless_refused(&answer, refusal)?;
-    let (count, passes) = (answer[flat::FORCED], answer[flat::PASSES]);
-    Ok(Forced { count, passes, records: written(&answer, room) })
+    let (count, passes, word) = (answer[flat::FORCED], answer[flat::PASSES], answer[flat::WORD]);
+    Ok(Forced { count, passes, word, records: written(&answer, room) })
 }
 
 /// The end place. The archive is for machines whose places have 64 bits.

@@ -3,7 +3,7 @@
 //! beside a border.
 
 use eskihrum::{flat, Forced, Place, Policy, Record, Refusal, Task, Tested};
-use second::compare::{everything, short, unflat, Compared, Planner, TEST};
+use second::compare::{everything, flags_word, short, unflat, Compared, Planner, TEST};
 use second::compare_writing::{compared, Said, Writer};
 
 /// The number of calls that agree is printed; a table on which the two differ is kept in
@@ -33,10 +33,11 @@ fn word(number: u32, place: u32, yes: bool, forced: u32, passes: u32) -> u64 {
 const FLAT: Planner = Planner { text: flat_text, list: flat_list };
 
 /// An answer with a guard behind it. What is kept for later has to be 0, whatever stood there.
-fn lent(run: impl FnOnce(&mut [u32]) -> u32) -> (u64, u32) {
+fn lent(run: impl FnOnce(&mut [u32]) -> u32) -> (u64, u32, u32) {
     const GUARD: u32 = 0xC3C3_C3C3;
     let mut answer = [GUARD; flat::FIELDS + 2];
     let yes = run(&mut answer);
+    let flags = std::mem::replace(&mut answer[flat::WORD], 0);
     assert_eq!(answer[6..], [0, 0, 0, 0, 0, 0, 0, 0, 0, 0, GUARD, GUARD], "what no field is for");
     assert_eq!(yes, answer[flat::YES], "the result is the answer's yes");
     let told = word(
@@ -46,13 +47,15 @@ fn lent(run: impl FnOnce(&mut [u32]) -> u32) -> (u64, u32) {
         answer[flat::FORCED],
         answer[flat::PASSES],
     );
-    (told, answer[flat::RECORDS])
+    (told, answer[flat::RECORDS], flags)
 }
 
-/// As many records as the answer says were written, and no other; the second program knows how many.
-fn counted((told, written): (u64, u32), before: &[u32], after: &[u32]) -> u64 {
+/// As many records as the answer says were written, and no other; the second program knows how many. Their
+/// flags are in the word.
+fn counted((told, written, flags): (u64, u32, u32), before: &[u32], after: &[u32]) -> u64 {
     let changed = before.iter().zip(after).rposition(|(old, new)| old != new).map_or(0, |last| last / 3 + 1);
     assert_eq!(written as usize, changed, "the number of records");
+    assert_eq!(flags, flags_word(&after[..3 * changed]), "the flags in one word");
     told
 }
 
@@ -116,6 +119,8 @@ fn forced(answer: Result<Forced, Refusal>, by_line: bool, n: usize) -> u64 {
     match answer {
         Ok(forced) => {
             assert_eq!(forced.records.len(), n, "a record for each task");
+            let flags: Vec<u32> = forced.records.iter().flat_map(|one| [one.flag, 0, 0]).collect();
+            assert_eq!(forced.word, flags_word(&flags), "the flags in one word");
             word(0, 0, true, forced.count, forced.passes)
         }
         Err(refusal) => refused(refusal, by_line),

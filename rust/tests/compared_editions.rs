@@ -3,7 +3,7 @@
 //! refuses; every value, and every record of the caller's list.
 
 use eskihrum::{flat, Edition, Forced, Place, Policy, Record, Refusal, Rounded, Task, Tested};
-use second::compare::{Compared, TEST};
+use second::compare::{flags_word, Compared, TEST};
 use second::edition2_compare::{everything, short, Planner, Said};
 
 /// The number of calls that agree is printed; a table on which the two differ is kept in
@@ -30,11 +30,13 @@ fn lent(records: &mut [u32], run: impl FnOnce(&mut [u32], &mut [u32]) -> u32) ->
     let before = records.to_vec();
     let mut answer = [GUARD; flat::FIELDS + 2];
     let yes = run(records, &mut answer);
+    let flags = std::mem::replace(&mut answer[flat::WORD], 0);
     assert_eq!(answer[7..], [0, 0, 0, 0, 0, 0, 0, 0, 0, GUARD, GUARD], "what no field is for");
     assert_eq!(yes, answer[flat::YES], "the result is the answer's yes");
     let changed = before.iter().zip(records.iter()).rposition(|(old, new)| old != new);
     let written = changed.map_or(0, |last| last / 3 + 1);
     assert_eq!(answer[flat::RECORDS] as usize, written, "the number of records");
+    assert_eq!(flags, flags_word(&records[..3 * written]), "the flags in one word");
     Said {
         number: answer[flat::NUMBER],
         place: answer[flat::PLACE],

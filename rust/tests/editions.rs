@@ -43,7 +43,8 @@ fn case(cores: u32, policy: Policy, tasks: &[Task], tests: Tests, forces: Forces
         Ok((rounds, passes, records)) => {
             let records: Vec<Record> = records.iter().map(|three| record(*three)).collect();
             let count = records.iter().map(|record| record.forced).sum();
-            assert_eq!(told, Ok(Rounded { told: Forced { count, passes, records: &records }, rounds }));
+            let word = records.iter().rev().fold(0, |word, one| 2 * word + u32::from(one.flag == 0));
+            assert_eq!(told, Ok(Rounded { told: Forced { count, passes, word, records: &records }, rounds }));
         }
         Err((place, passes)) => {
             let place = Place::Task(place);
@@ -88,7 +89,8 @@ fn texts_under_the_second_edition() {
     let told = test_plan_in(Second, B, &mut room);
     assert_eq!(told, Ok(Rounded { told: Tested { yes: true, records: &records }, rounds: 3 }));
     let told = force_plan_in(Second, B, &mut room);
-    assert_eq!(told, Ok(Rounded { told: Forced { count: 0, passes: 1, records: &records }, rounds: 3 }));
+    let forced = Forced { count: 0, passes: 1, word: 0, records: &records };
+    assert_eq!(told, Ok(Rounded { told: forced, rounds: 3 }));
     assert_eq!(room[2..], [KEPT; 2]);
     let fifteen = Refusal { number: 15, place: Place::Task(1), passes: 2 };
     assert_eq!(force_plan_in(Second, D, &mut room), Err(fifteen));
@@ -107,7 +109,8 @@ fn the_first_edition_has_no_rounds() {
     let mut room = [KEPT; 3];
     let tasks = [p(12, 4, 12), p(24, 9, 18)];
     let records = [record((0, 1, 12)), record((0, 1, 17))];
-    let forced = Ok(Rounded { told: Forced { count: 2, passes: 3, records: &records }, rounds: 0 });
+    let forced = Forced { count: 2, passes: 3, word: 3, records: &records };
+    let forced = Ok(Rounded { told: forced, rounds: 0 });
     assert_eq!(force_tasks_in(First, 1, Fp, &tasks, &mut room), forced);
     assert_eq!(force_plan_in(First, B, &mut room), forced);
     assert_eq!(test_tasks_in(First, 1, Fp, &tasks, &mut room).map(|told| told.rounds), Ok(0));

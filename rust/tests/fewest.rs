@@ -2,6 +2,7 @@
 //! and by the safe functions.
 
 use eskihrum::{flat, Fewest, Place, Policy, Record, Refusal, Task};
+use second::compare::flags_word;
 use second::fewest_compare::{everything, short, Said, Searcher};
 
 const GUARD: u32 = 0xC3C3_C3C3;
@@ -18,7 +19,8 @@ fn told(yes: u32, answer: &[u32], before: &[u32], after: &[u32]) -> Said {
     let changed = before.iter().zip(after).rposition(|(old, new)| old != new).map_or(0, |at| at / 3 + 1);
     assert_eq!(answer[flat::RECORDS] as usize, changed, "the number of records");
     assert_eq!((yes, yes), (answer[flat::YES], u32::from(answer[flat::NUMBER] == 0)), "the yes");
-    assert_eq!((answer[6], &answer[8..16]), (0, &[0; 8][..]), "what no field is for");
+    assert_eq!(answer[flat::WORD], flags_word(&after[..3 * changed]), "the flags in one word");
+    assert_eq!((answer[6], &answer[9..16]), (0, &[0; 7][..]), "what no field is for");
     assert_eq!(answer[flat::FIELDS..], [GUARD; 2], "what stands behind the answer");
     Said {
         number: answer[flat::NUMBER],

@@ -49,18 +49,18 @@ fn a_yes_is_a_yes() {
     let told = test_tasks(1, Policy::Fp, &tasks, &mut room);
     assert_eq!(told, Ok(Tested { yes: true, records: &[record(1, 0, 4), record(1, 0, 17)] }));
     let told = force_tasks(1, Policy::Fp, &tasks, &mut room);
-    assert_eq!(told, Ok(Forced { count: 0, passes: 1, records: &[record(1, 0, 4), record(1, 0, 17)] }));
+    assert_eq!(told, Ok(Forced { count: 0, passes: 1, word: 0, records: &[record(1, 0, 4), record(1, 0, 17)] }));
 }
 
 #[test]
 fn forcing_tells_its_records_and_keeps_the_rest() {
     let mut room = [KEPT; 4];
     let told = force_tasks(1, Policy::Fp, &TASKS, &mut room);
-    assert_eq!(told, Ok(Forced { count: 2, passes: 3, records: &B_FORCED }));
+    assert_eq!(told, Ok(Forced { count: 2, passes: 3, word: 3, records: &B_FORCED }));
     assert_eq!(room[2..], [KEPT; 2]);
 
     let mut room = [KEPT; 4];
-    assert_eq!(force_plan(B, &mut room), Ok(Forced { count: 2, passes: 3, records: &B_FORCED }));
+    assert_eq!(force_plan(B, &mut room), Ok(Forced { count: 2, passes: 3, word: 3, records: &B_FORCED }));
     assert_eq!(room[2..], [KEPT; 2]);
 }
 
@@ -111,13 +111,29 @@ fn the_largest_counts_arrive_whole() {
     let bounds: Vec<u32> = std::iter::once(3).chain(5..=34).chain([35]).collect();
     let mut room = [KEPT; 32];
     let told = force_tasks(1, Policy::Fp, &tasks, &mut room).expect("it is accepted");
-    assert_eq!((told.count, told.passes), (32, 33));
+    assert_eq!((told.count, told.passes, told.word), (32, 33, u32::MAX));
     assert!(told.records.iter().zip(bounds).all(|(told, bound)| *told == record(0, 1, bound)));
 
     let mut room = [KEPT; 32];
     let tasks = [Task::preemptive(1_000_000, 1, 31); 32];
     assert_eq!(force_tasks(1, Policy::Fp, &tasks, &mut room), Err(refusal(14, Place::Task(32), 33)));
     assert_eq!(room, [KEPT; 32]);
+}
+
+/// The word has a 1 for each non-preemptive task, bit 0 for task 1; a test's has the flags as given, and that
+/// of a refusal is 0.
+#[test]
+fn the_word_arrives_in_order() {
+    let given = [Task::non_preemptive(100, 1, 50), Task::preemptive(100, 1, 60), Task::preemptive(100, 1, 70)];
+    let mut room = [KEPT; 3];
+    let told = force_tasks(1, Policy::Fp, &given, &mut room).expect("it is accepted");
+    assert_eq!((told.count, told.word), (0, 0b001));
+    let numbers = [0, 100, 1, 50, 1, 100, 1, 60, 0, 100, 1, 70];
+    let mut answer = [7; flat::FIELDS];
+    flat::test_tasks(1, 1, &numbers, &mut [0; 9], &mut answer);
+    assert_eq!(answer[flat::WORD], 0b101);
+    flat::force_plan(D, &mut [0; 6], &mut answer);
+    assert_eq!((answer[flat::NUMBER], answer[flat::WORD]), (14, 0));
 }
 
 /// Every byte counts, and so does every byte that is missing.

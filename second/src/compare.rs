@@ -102,6 +102,11 @@ pub fn unflat(numbers: &[u32]) -> Vec<Task> {
     numbers.chunks(4).map(task).collect()
 }
 
+/// The flags of flat records in one word, as a loader keeps them: bit 0 for the first, a 1 for the flag 0.
+pub fn flags_word(records: &[u32]) -> u32 {
+    records.chunks(3).rev().fold(0, |word, three| 2 * word + u32::from(three[0] == 0))
+}
+
 pub fn flat_tasks(tasks: &[Task]) -> Vec<u32> {
     tasks.iter().flat_map(|task| [task.flag, task.period, task.cost, task.deadline]).collect()
 }

@@ -14,14 +14,15 @@ use planner::Said;
 use table::Checked;
 use table::Refusal;
 
-// An answer, and how many records were written.
+// An answer, how many records were written, and their flags in one word.
 pub struct Asked {
     pub answer: Answer,
     pub count: usize,
+    pub word: u32,
 }
 
 // The records of an answer go to the front of the caller's numbers, and the rest of them stays.
-fn put_said(out: &mut [u32], given: Flags, said: Said, bounds: &[u32; 32])
+pub fn put_said(out: &mut [u32], given: Flags, said: Said, bounds: &[u32; 32])
     requires { ⌜ Fits (saidDone given said (now bounds)) (length (now out)) ⌝ }
     ensures { λ _. ⌜ now (out .exit) ≡ flatAfter (saidDone given said (now (bounds .entry)))
         (now (out .entry)) ⌝ }
@@ -43,7 +44,7 @@ fn put_said(out: &mut [u32], given: Flags, said: Said, bounds: &[u32; 32])
 }
 
 // What is loaded is answered: its fault, 13 where there is too little room, or what the job says of it.
-fn answered<'a>(
+pub fn answered<'a>(
     job: Job,
     room: usize,
     loaded: Loaded,
@@ -100,10 +101,12 @@ pub fn plan_asked(job: Job, text: &[u8], records: &mut [u32]) -> Asked
     );
     let answer = said.answer;
     let count = said.count;
+    let last = said.flags;
     put_said(records, given, said, &bounds);
     Asked {
         answer: answer,
         count: count,
+        word: flags::word_of(last, count),
     }
 }
 
@@ -140,9 +143,11 @@ pub fn tasks_asked(job: Job, cores: u32, policy: u32, tasks: &[u32], records: &m
     );
     let answer = said.answer;
     let count = said.count;
+    let last = said.flags;
     put_said(records, given, said, &bounds);
     Asked {
         answer: answer,
         count: count,
+        word: flags::word_of(last, count),
     }
 }

@@ -2,7 +2,7 @@
 -- Assumes nothing.
 use Prim.Native.Nat.{ℕ, zero, suc, _+_, _≤_, _<_}
 use native.Mathlib.Omega.{arith}
-use mathlib.Core.Path.{_≡_, refl, ap, _∙_}
+use mathlib.Core.Path.{_≡_, refl, sym, ap, _∙_}
 use mathlib.Core.List.{List}
 use lib.ListN.{set, replicate}
 use Rattle.base.specs.Choice.{orElse}
@@ -22,7 +22,7 @@ use Rattle.planner.specs.declared.Verdict.{Verdict}
 use Rattle.planner.specs.declared.Answer.{Answer}
 use Rattle.planner.specs.declared.Answer.the-variants.{Given, Refused as Stopped}
 use Rattle.planner.specs.declared.Job.the-variants.{Force}
-use Rattle.planner.specs.Answers.{noRecord, recordAt, recordsOf, entry, changes}
+use Rattle.planner.specs.Answers.{valuesOf, noRecord, recordAt, recordsOf, entry, changes}
 use Rattle.planner.specs.Done.{finish, refuse, sent, final, ended, failing, forceDone, legalDone, planDone}
 use Rattle.planner.proofs.StageLaws.{room-enough, plan-fine, plan-faulty}
 use Rattle.writer.specs.declared.Written.{Written}
@@ -30,7 +30,7 @@ use Rattle.writer.specs.Written.{WroteAs}
 use Rattle.changer.specs.declared.Changed.{Changed}
 use Rattle.changer.specs.declared.Changed.the-variants.{Refused}
 use Rattle.changer.specs.Changed.{withFlag, withFlags, changedTable, byWritten, Changes, ForcedAs}
-use Rattle.changer.specs.Changed.{ChangedAs, flagsIn}
+use Rattle.changer.specs.Changed.{ChangedAs}
 
 -- The loop: after i turns the first i tasks have the flags of the records.
 pub record Flagging (t : Table) (recs : List Record) (tasks : List Task) (i : ℕ) : Type 0 where
@@ -70,19 +70,25 @@ flags-same t f g small e =
 -- Forcing that accepts: its records hold the flags and the bounds where it ended.
 pub record Accepts (t : Table) (d : Done) : Type 0 where
   pub passing : failing t (final t .bounds) ≡ 0
+  pub count : d .count ≡ t .n
   pub records : d .recs ≡ recordsOf (t .n) (ended t) (changes (sent t) (ended t)) (at (final t .bounds))
 
 accepted-case : (n x : ℕ) (a : Answer) (rs : List Record) (why : ℕ → Refusal) (passes : ℕ) {d : Done}
     {v : Verdict} → d ≡ orElse x (finish n a rs) (λ k. refuse (why k) passes) → d .answer ≡ Given v
-    → (x ≡ 0) × (d .recs ≡ rs)
-accepted-case n zero a rs why passes e says = (refl, ap (λ (d : Done). d .recs) e)
+    → (x ≡ 0) × (d .count ≡ n) × (d .recs ≡ rs)
+accepted-case n zero a rs why passes {v = v} e says =
+    let is : a ≡ Given v = sym (ap (λ (d : Done). d .answer) e) ∙ says in (
+      refl,
+      ap (λ (d : Done). d .count) e ∙ ap (λ (x : Answer). valuesOf n x .written) is,
+      ap (λ (d : Done). d .recs) e,
+    )
 accepted-case n (suc k) a rs why passes e says = absurd (let z : _≡_ {A = ℕ} 0 1 = cc in omega arith)
 
 pub accepts : {t : Table} {d : Done} {v : Verdict} → d ≡ legalDone t Force → d .answer ≡ Given v → Accepts t d
 unfolding legalDone forceDone
 accepts {t} e says =
     let c = accepted-case (t .n) (failing t (final t .bounds)) _ _ _ _ e says in
-    record { passing = c .0; records = c .1 }
+    record { passing = c .0; count = c .1; records = c .2 }
 
 -- so the flags of its records are those where forcing ended
 pub record-flags : {t : Table} {d : Done} → t .n ≤ 32 → Accepts t d → (i : ℕ) → i < t .n
@@ -93,36 +99,36 @@ record-flags {t} small a i l =
     (row-at noRecord (λ j. entry (ended t j) (changes (sent t) (ended t) j) (at (final t .bounds) j)) (t .n) i
     l small)
 
--- The stages: what an answer with its records writes, what forcing answers, and then what is read.
-module _ (t : Table) (d : Done) {old : List ℕ} {at : ℕ} where
-  pub done-written : {v : Verdict} {t′ : Table} {w : Written} {r : Changed} {new : List ℕ}
-      → d .answer ≡ Given v → t′ ≡ withFlags t (flagsIn d) → WroteAs t′ old at w new → r ≡ byWritten w
-      → Changes (d .answer) (withFlags t (flagsIn d)) old at r new
-  done-written says is wrote q = record {
-    answer = rw (says, ← is) (q ∙ ap byWritten (wrote .answer));
-    bytes = rw (says, ← is) (wrote .bytes);
+-- The stages: what an answer writes, what forcing answers, and then what is read.
+module _ {a : Answer} {t : Table} {old : List ℕ} {at : ℕ} where
+  pub changes-written : {v : Verdict} {w : Written} {r : Changed} {new : List ℕ} → a ≡ Given v
+      → WroteAs t old at w new → r ≡ byWritten w → Changes a t old at r new
+  changes-written says wrote q = record {
+    answer = rw says (q ∙ ap byWritten (wrote .answer));
+    bytes = rw says (wrote .bytes);
   }
 
-  pub done-stopped : {why : Refusal} {passes : ℕ} → d .answer ≡ Stopped why passes
-      → Changes (d .answer) (withFlags t (flagsIn d)) old at (Refused why passes) old
-  done-stopped says = record { answer = rw says; bytes = rw says }
+  pub changes-stopped : {why : Refusal} {passes : ℕ} → a ≡ Stopped why passes
+      → Changes a t old at (Refused why passes) old
+  changes-stopped says = record { answer = rw says; bytes = rw says }
 
-  pub forced-done : {r : Changed} {new : List ℕ} → LegalTable t → d ≡ legalDone t Force
-      → Changes (d .answer) (withFlags t (flagsIn d)) old at r new → ForcedAs t old at r new
-  forced-done {r} {new} legal e = go (d .answer) refl
-    where
-      go : (a : Answer) → d .answer ≡ a → Changes (d .answer) (withFlags t (flagsIn d)) old at r new
-          → ForcedAs t old at r new
-      go (Given v) says c =
-          let same : withFlags t (flagsIn d) ≡ changedTable t =
-          flags-same t _ (ended t) (legal .count) (record-flags (legal .count) (accepts e says))
-          in
-          rw (← e, ← same) c
-      go (Stopped why passes) says c =
-          record {
-            answer = rw (← e) (rw says (rw says at (c .answer)));
-            bytes = rw (← e) (rw says (rw says at (c .bytes)));
-          }
+  pub changes-of : {t′ : Table} {r : Changed} {new : List ℕ} → t′ ≡ t → Changes a t′ old at r new
+      → Changes a t old at r new
+  changes-of is c = rw (← is) c
+
+-- by what forcing answers a legal table: what is written is the table as changed, where it accepts
+pub forced-table : {t : Table} {d : Done} {t′ : Table} {old : List ℕ} {at : ℕ} {r : Changed} {new : List ℕ}
+    → d ≡ legalDone t Force → (Accepts t d → t′ ≡ changedTable t) → Changes (d .answer) t′ old at r new
+    → ForcedAs t old at r new
+forced-table {t} {d} {t′} {old} {at} {r} {new} e same = go (d .answer) refl
+  where
+    go : (a : Answer) → d .answer ≡ a → Changes (d .answer) t′ old at r new → ForcedAs t old at r new
+    go (Given v) says c = rw (← e, ← same (accepts e says)) c
+    go (Stopped why passes) says c =
+        record {
+          answer = rw (← e) (rw says (rw says at (c .answer)));
+          bytes = rw (← e) (rw says (rw says at (c .bytes)));
+        }
 
 module _ (text : List ℕ) {r : Reading} (e : r ≡ readOf text) where
   pub text-legal : r .answer ≡ Fine → LegalTable (r .table)

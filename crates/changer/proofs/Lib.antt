@@ -2,3 +2,4 @@ pub mod ChangeLaws
 pub mod Unique
 pub mod SettledLaws
 pub mod Theorems
+pub mod HeldLaws

@@ -1,5 +1,5 @@
 // The desk: what is asked of a plan, or of a table that people typed, with read and write alone. Document 02,
-// Wishes 1, 4 and 5.
+// Wishes 1, 4, 5 and 7.
 //
 // Standard input: one line that says what is asked, and then the bytes.
 //
@@ -11,6 +11,8 @@
 //   cores   a plan      the fewest cores, and the listing with them (crate fewest_listing): a line, as
 //                         fewest 2
 //                       and then what the plan printer writes of the plan with 2 in its head
+//   word    a plan      the flags after forcing in one word (crate word_line), a line, as
+//                         word 00000003
 //   apply   a plan      the plan as changed by forcing (crate changer), in plan lines
 //   list2, test2, apply2
 //           a plan      under edition 2: its listing after forcing, its listing as sent, the plan as changed
@@ -85,6 +87,13 @@ fn cores(text: &[u8]) {
     io::write_all(1, &out[..n]);
 }
 
+// The flags after forcing in one word.
+fn word(text: &[u8]) {
+    let mut out = io::buffer();
+    let n = word_line::write_word(text, &mut out);
+    io::write_all(1, &out[..n]);
+}
+
 // The plan as changed.
 fn apply(text: &[u8]) {
     let mut out = io::buffer();
@@ -153,7 +162,7 @@ fn answer(s: &[u8], n: usize)
     if n == s.len() {
         io::write_all(
             2,
-            b"desk: the first line is none of test, cores, apply, show, make, list2, test2 and apply2\n",
+            b"desk: the first line is none of test, cores, word, apply, show, make, list2, test2, apply2\n",
         );
         return;
     }
@@ -166,20 +175,15 @@ fn answer(s: &[u8], n: usize)
         cores(&s[rest..]);
         return;
     }
+    if is_word(s, n, b"word") {
+        word(&s[rest..]);
+        return;
+    }
     if is_word(s, n, b"apply") {
         apply(&s[rest..]);
         return;
     }
-    if is_word(s, n, b"list2") {
-        rounds::list(&s[rest..]);
-        return;
-    }
-    if is_word(s, n, b"test2") {
-        rounds::test(&s[rest..]);
-        return;
-    }
-    if is_word(s, n, b"apply2") {
-        rounds::apply(&s[rest..]);
+    if rounds::asked(s, n) {
         return;
     }
     if is_word(s, n, b"show") {
@@ -192,7 +196,7 @@ fn answer(s: &[u8], n: usize)
     }
     io::write_all(
         2,
-        b"desk: the first line is none of test, cores, apply, show, make, list2, test2 and apply2\n",
+        b"desk: the first line is none of test, cores, word, apply, show, make, list2, test2, apply2\n",
     );
 }
 

@@ -2,7 +2,7 @@
 -- return of the code is a case of the definition. Assumes nothing.
 use Prim.Native.Nat.{ℕ, _≤_, _<_}
 use native.Mathlib.Omega.{arith}
-use mathlib.Core.Path.{_≡_, sym, ap, ap₂, _∙_}
+use mathlib.Core.Path.{_≡_, refl, sym, ap, ap₂, _∙_}
 use mathlib.Core.Bool.{true}
 use mathlib.Core.List.{List}
 use lib.Dec.{eqb}
@@ -27,14 +27,19 @@ use Rattle.planner.specs.declared.Job.{Job}
 use Rattle.planner.specs.declared.Job.the-variants.{Test, Force}
 use Rattle.planner.specs.Answers.{given, recordsOf, changes}
 use Rattle.planner.specs.Done.{sent, finish, refuse}
-use Rattle.planner.proofs.StageLaws.{flagged, InHand, tested-staged, forced-refused, forced-staged}
+use Rattle.planner.specs.Rows.{saidDone}
+use Rattle.planner.proofs.StageLaws.{flagged, said-listed, InHand, tested-staged, forced-refused}
+use Rattle.planner.proofs.StageLaws.{forced-staged}
+use Rattle.planner.proofs.CountLaws.{Counted, tested-counted, forced-counted}
 use Rattle.round_test.specs.Round.{testIn, TestedIn}
 use Rattle.round_force.specs.declared.Forced2.{Forced2}
 use Rattle.round_force.specs.Forced2.{finalIn, Ended2}
 use Rattle.round_force.proofs.TableLaws.{rows-test2, rows-force2}
 use Rattle.edition_2.specs.declared.Rounded.{Rounded}
-use Rattle.edition_2.specs.Second.{tested2, final2, endOf, unrounded, rounded, testSecond, forceSecond}
-use Rattle.edition_2.specs.Second.{legalSecond}
+use Rattle.edition_2.specs.declared.RoundsSaid.{RoundsSaid}
+use Rattle.edition_2.specs.Second.{tested2, final2, endOf, doneSecond, unrounded, rounded, legalSecond}
+use Rattle.edition_2.specs.Second.{testSecond, forceSecond}
+use Rattle.edition_2.specs.Rows.{saidRounded}
 
 abbrev with : Done → ℕ → Rounded
 with d r = record { done = d; rounds = r }
@@ -122,3 +127,24 @@ module _ (t : Table) (job : Job) where
 
   pub forces-second : job ≡ Force → forceSecond t ≡ legalSecond t job
   forces-second e = rw e
+
+-- how many records there are, and an answer whose records are listed
+pub second-counted : (t : Table) (job : Job) → Counted (t .n) (doneSecond t job)
+second-counted t Test = tested-counted t (tested2 t .bounds)
+second-counted t Force = forced-counted 15 t (endOf (final2 t))
+
+module _ (sentFlags : Flags) (r : RoundsSaid) (bounds : List ℕ) where
+  pub second-few : {t : Table} (job : Job) → LegalTable t
+      → saidRounded sentFlags r bounds ≡ legalSecond t job
+      → r .said .count ≤ 32
+  unfolding saidDone legalSecond
+  second-few {t} job legal e =
+      omega (arith, ap (λ (x : Rounded). x .done .count) e, second-counted t job .most, legal .count)
+
+  pub second-listed : {recs : List Record} {x : Rounded}
+      → recs ≡ recordsOf (r .said .count) (flagIn (r .said .flags))
+      (changes (flagIn sentFlags) (flagIn (r .said .flags))) (at bounds)
+      → saidRounded sentFlags r bounds ≡ x
+      → with (record { answer = r .said .answer; count = r .said .count; recs = recs }) (r .rounds) ≡ x
+  second-listed e is =
+      ap (λ (d : Done). with d (r .rounds)) (said-listed sentFlags (r .said) bounds e refl) ∙ is

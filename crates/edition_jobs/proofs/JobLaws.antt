@@ -1,43 +1,50 @@
--- What is told of an answer with its rounds, and from the answer by value to the promises.
+-- What is told of an answer with its rounds, and from the answer in parts to the promises.
 -- Assumes nothing.
-use Prim.Native.Nat.{ℕ, _/_}
-use mathlib.Core.Path.{_≡_, refl, ap, _∙_}
+use Prim.Native.Nat.{ℕ, _≤_}
+use native.Mathlib.Omega.{arith}
+use mathlib.Core.Path.{_≡_, refl, ap, ap₂, _∙_}
 use mathlib.Core.List.{List}
-use lib.ListN.{length, getD, set}
-use Rattle.table.specs.declared.Task.{Task}
+use lib.ListN.{getD, set}
 use Rattle.planner.specs.declared.Answer.{Answer}
-use Rattle.planner.specs.declared.Job.{Job}
+use Rattle.planner.proofs.CountLaws.{Small}
 use Rattle.edition_2.specs.declared.Rounded.{Rounded}
-use Rattle.editions.specs.declared.Edition.{Edition}
-use Rattle.editions.specs.Editions.{planIn, listIn}
-use Rattle.flat.specs.Flat.{countIn, tasksIn, flatAfter}
+use Rattle.asked_in.specs.declared.AskedIn.{AskedIn}
+use Rattle.asked_in.specs.AskedIn.{AskedAsIn}
 use Rattle.told.specs.Told.{fields, yesOf, toldOf, toldAfter}
-use Rattle.edition_jobs.specs.Jobs.{ToldIn, PlanToldIn, TasksToldIn}
+use Rattle.edition_jobs.specs.Jobs.{numbersIn, ToldIn, HeardIn}
 
 -- the third number is the yes, with the round count too
-yes-third : (a : Answer) (n r : ℕ) → getD (set (toldOf a n) 6 r) 2 0 ≡ yesOf a
+yes-third : (a : Answer) (n w r : ℕ) → getD (numbersIn a n w r) 2 0 ≡ yesOf a
 unfolding fields
-yes-third a n r = refl
+yes-third a n w r = refl
 
--- the numbers and the records of an answer make what is told
-pub told-whole : (r : Rounded) (old ans told new ans′ : List ℕ)
-    → told ≡ toldOf (r .done .answer) (r .done .count) → ans′ ≡ toldAfter (set told 6 (r .rounds)) ans
-    → new ≡ flatAfter (r .done) old → ToldIn r old ans (getD (set told 6 (r .rounds)) 2 0) new ans′
-told-whole r old ans told new ans′ e written records = record {
+-- the numbers of an answer are what is heard of it
+pub heard-whole : (x : AskedIn) (ans told ans′ : List ℕ)
+    → told ≡ toldOf (x .asked .answer) (x .asked .count) (x .asked .word)
+    → ans′ ≡ toldAfter (set told 6 (x .rounds)) ans
+    → HeardIn x ans (getD (set told 6 (x .rounds)) 2 0) ans′
+heard-whole x ans told ans′ e written = record {
   yes =
-      ap (λ l. getD (set l 6 (r .rounds)) 2 0) e ∙ yes-third (r .done .answer) (r .done .count) (r .rounds);
-  records = records;
-  answer = written ∙ ap (λ l. toldAfter (set l 6 (r .rounds)) ans) e;
+      ap (λ l. getD (set l 6 (x .rounds)) 2 0) e
+      ∙ yes-third (x .asked .answer) (x .asked .count) (x .asked .word) (x .rounds);
+  answer = written ∙ ap (λ l. toldAfter (set l 6 (x .rounds)) ans) e;
 }
 
--- from the answer by value to the promises
-pub plan-told : (e : Edition) (job : Job) (text old ans : List ℕ) (x : ℕ) (new ans′ : List ℕ) (r : Rounded)
-    → r ≡ planIn e text job (length old / 3) → ToldIn r old ans x new ans′
-    → PlanToldIn e job text old ans x new ans′
-plan-told e job text old ans x new ans′ r is h = rw is at h
+-- few enough records to be counted in a number of 32 bits
+pub few-asked : {r : Rounded} {old : List ℕ} {x : AskedIn} {new : List ℕ} {room : ℕ} → AskedAsIn r old x new
+    → Small room (r .done) → x .asked .count ≤ 32
+few-asked asked small = omega (arith, asked .asked .count, small .few)
 
-pub tasks-told : (e : Edition) (job : Job) (cores policy : ℕ) (xs old ans : List ℕ) (x : ℕ)
-    (new ans′ : List ℕ) (n : ℕ) (ts : List Task) (r : Rounded) → n ≡ countIn (length xs) → ts ≡ tasksIn xs
-    → r ≡ listIn e cores policy n ts job (length old / 3) → ToldIn r old ans x new ans′
-    → TasksToldIn e job cores policy xs old ans x new ans′
-tasks-told e job cores policy xs old ans x new ans′ n ts r en et is h = rw (is, en, et) at h
+-- with the records that are written, it is what is told of the answer by value
+pub told-whole : {r : Rounded} {old ans : List ℕ} {x : AskedIn} {y : ℕ} {new ans′ : List ℕ}
+    → AskedAsIn r old x new → HeardIn x ans y ans′ → ToldIn r old ans y new ans′
+told-whole {r} {ans = ans} {x = x} asked heard = record {
+  yes = heard .yes ∙ ap (λ (a : Answer). yesOf a) (asked .asked .answer);
+  records = asked .asked .records;
+  answer =
+      heard .answer
+      ∙ ap₂ (λ (a : Answer) n. toldAfter (numbersIn a n (x .asked .word) (x .rounds)) ans)
+      (asked .asked .answer) (asked .asked .count)
+      ∙ ap₂ (λ w k. toldAfter (numbersIn (r .done .answer) (r .done .count) w k) ans) (asked .asked .word)
+      (asked .rounds);
+}

@@ -1,25 +1,22 @@
 // Either job under either edition, on a plan text and on a flat table: what is answered goes into a lent list
 // of numbers, in the order of the crate told and with the round count beside, and the records into another.
-ghost use lib.ListN.{length};
-ghost use Rattle.flat.specs.Flat.{Fits};
-ghost use Rattle.edition_jobs.specs.Jobs.{ToldIn, PlanToldIn, TasksToldIn};
-use edition_2::Rounded;
+ghost use Prim.Native.Nat.{_≤_};
+ghost use Rattle.edition_jobs.specs.Jobs.{HeardIn, PlanToldIn, TasksToldIn};
+use asked_in::AskedIn;
 use editions::Edition;
 use planner::Job;
 
-// The answer, its rounds and its records, each into its lent list; 1 for a yes.
-fn tell(records: &mut [u32], answer: &mut [u32], r: Rounded) -> u32
-    requires { ⌜ Fits (r .done) (length (now records)) ⌝ }
-    ensures { λ x. ⌜ ToldIn r (now (records .entry)) (now (answer .entry)) x (now (records .exit))
-        (now (answer .exit)) ⌝ }
+// What is answered and its rounds, into the lent list; 1 for a yes.
+fn tell(answer: &mut [u32], asked: AskedIn) -> u32
+    requires { ⌜ asked .asked .count ≤ 32 ⌝ }
+    ensures { λ r. ⌜ HeardIn asked (now (answer .entry)) r (now (answer .exit)) ⌝ }
 {
-    let d = r.done;
-    let n = d.count;
-    let found = d.answer;
-    let mut told = told::told_of(found, n as u32);
-    told[6] = r.rounds;
+    let said = asked.asked;
+    let n = said.count;
+    let found = said.answer;
+    let mut told = told::told_of(found, n as u32, said.word);
+    told[6] = asked.rounds;
     told::put_told(answer, told);
-    flat::put_records(records, d);
     told[2]
 }
 
@@ -34,9 +31,8 @@ pub fn job_plan_in(
     ensures { λ r. ⌜ PlanToldIn edition job (now (text .entry)) (now (records .entry))
         (now (answer .entry)) r (now (records .exit)) (now (answer .exit)) ⌝ }
 {
-    let room = records.len() / 3;
-    let r = editions::plan_in(edition, text, job, room);
-    tell(records, answer, r)
+    let asked = asked_in::plan_asked_in(edition, job, text, records);
+    tell(answer, asked)
 }
 
 // The job on cores, policy and a flat table.
@@ -52,9 +48,6 @@ pub fn job_tasks_in(
     ensures { λ r. ⌜ TasksToldIn edition job cores policy (now (tasks .entry)) (now (records .entry))
         (now (answer .entry)) r (now (records .exit)) (now (answer .exit)) ⌝ }
 {
-    let room = records.len() / 3;
-    let n = flat::count_in(tasks.len());
-    let list = flat::tasks_in(tasks);
-    let r = editions::list_in(edition, cores, policy, n, list, job, room);
-    tell(records, answer, r)
+    let asked = asked_in::tasks_asked_in(edition, job, cores, policy, tasks, records);
+    tell(answer, asked)
 }

@@ -9,18 +9,13 @@ use Rattle.table.proofs.TableLaws.{fine-legal}
 use Rattle.lines.specs.Reads.{readOf}
 use Rattle.lines.proofs.Theorems.{read-legal}
 use Rattle.planner.specs.declared.Job.{Job}
-use Rattle.planner.specs.declared.Job.the-variants.{Test, Force}
 use Rattle.planner.specs.Done.{roomed, tableFrom}
-use Rattle.planner.proofs.CountLaws.{Counted, tested-counted, forced-counted, Fits, roomed-fits, Small}
-use Rattle.planner.proofs.CountLaws.{checked-small, plan-small, list-small}
-use Rattle.edition_2.specs.Second.{tested2, final2, endOf, doneSecond}
+use Rattle.planner.proofs.CountLaws.{Fits, roomed-fits, Small, checked-small, plan-small, list-small}
+use Rattle.edition_2.specs.Second.{doneSecond}
+use Rattle.edition_2.proofs.SecondLaws.{second-counted}
 use Rattle.editions.specs.declared.Edition.{Edition}
 use Rattle.editions.specs.declared.Edition.the-variants.{First, Second}
 use Rattle.editions.specs.Editions.{planSecond, listSecond, planIn, listIn}
-
-second-counted : (t : Table) (job : Job) → Counted (t .n) (doneSecond t job)
-second-counted t Test = tested-counted t (tested2 t .bounds)
-second-counted t Force = forced-counted 15 t (endOf (final2 t))
 
 pub second-fits : (t : Table) (job : Job) (room : ℕ) → Fits (t .n) room (roomed t room (doneSecond t job))
 second-fits t job room = roomed-fits t room (doneSecond t job) (second-counted t job)

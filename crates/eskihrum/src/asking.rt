@@ -11,7 +11,7 @@ use planner::Job;
 pub extern "C" fn eskihrum_abi() -> u32
     ensures { λ r. ⌜ r ≡ abi ⌝ }
 {
-    4
+    5
 }
 
 // The test of a plan text.

@@ -5,6 +5,7 @@ use mathlib.Core.List.{List}
 use lib.ListN.{length, getD, set}
 use Rattle.table.specs.declared.Task.{Task}
 use Rattle.planner.proofs.CountLaws.{Small}
+use Rattle.words.specs.Word.{wordOfDone}
 use Rattle.flat.specs.Flat.{countIn, tasksIn, flatAfter, Fits}
 use Rattle.flat.proofs.FlatLaws.{flat-fits}
 use Rattle.told.specs.Told.{fields, toldOf, toldAfter, yesOf}
@@ -17,11 +18,12 @@ yes-third : (f : Fewest) → getD (fewestNumbers f) 2 0 ≡ yesOf (f .done .answ
 unfolding fields
 yes-third f = refl
 
-pub told-whole : (f : Fewest) (old ans told new ans′ : List ℕ)
-    → told ≡ toldOf (f .done .answer) (f .done .count) → ans′ ≡ toldAfter (set told 7 (f .cores)) ans
+pub told-whole : (f : Fewest) (w : ℕ) (old ans told new ans′ : List ℕ) → w ≡ wordOfDone (f .done)
+    → told ≡ toldOf (f .done .answer) (f .done .count) w → ans′ ≡ toldAfter (set told 7 (f .cores)) ans
     → new ≡ flatAfter (f .done) old → FewestTold f old ans (getD (set told 7 (f .cores)) 2 0) new ans′
-told-whole f old ans told new ans′ e written records =
-    let same : set told 7 (f .cores) ≡ fewestNumbers f = ap (λ l. set l 7 (f .cores)) e in
+told-whole f w old ans told new ans′ is e written records =
+    let same : set told 7 (f .cores) ≡ fewestNumbers f =
+    ap (λ l. set l 7 (f .cores)) (e ∙ ap (toldOf (f .done .answer) (f .done .count)) is) in
     record {
       yes = ap (λ l. getD l 2 0) same ∙ yes-third f;
       records = records;

@@ -9,13 +9,14 @@ use Prim.Native.Nat.{ℕ, _/_}
 use mathlib.Core.Path.{_≡_}
 use mathlib.Core.List.{List}
 use lib.ListN.{length, set}
+use Rattle.words.specs.Word.{wordOfDone}
 use Rattle.flat.specs.Flat.{countIn, tasksIn, flatAfter}
 use Rattle.told.specs.Told.{yesOf, toldOf, toldAfter}
 use Rattle.fewest.specs.declared.Fewest.{Fewest}
 use Rattle.fewest.specs.Fewest.{planFewest, listFewest}
 
 abbrev pub fewestNumbers : Fewest → List ℕ
-fewestNumbers f = set (toldOf (f .done .answer) (f .done .count)) 7 (f .cores)
+fewestNumbers f = set (toldOf (f .done .answer) (f .done .count) (wordOfDone (f .done))) 7 (f .cores)
 
 -- in r the yes, in new and told′ the caller's lists afterwards
 pub record FewestTold (f : Fewest) (old told : List ℕ) (r : ℕ) (new told′ : List ℕ) : Type 0 where

@@ -15,7 +15,7 @@ fn tell(records: &mut [u32], answer: &mut [u32], f: Fewest) -> u32
     let d = f.done;
     let n = d.count;
     let found = d.answer;
-    let mut told = told::told_of(found, n as u32);
+    let mut told = told::told_of(found, n as u32, words::done_word(d));
     told[7] = f.cores;
     told::put_told(answer, told);
     flat::put_records(records, d);

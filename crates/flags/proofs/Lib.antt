@@ -3,4 +3,5 @@ pub mod WordLaws
 pub mod LastLaws
 pub mod OpLaws
 pub mod FlagLaws
+pub mod WordForLaws
 pub mod Unique

@@ -1,9 +1,9 @@
 -- What the operations on words are by place: or, and with not, the count of ones of xor, and the zeros at
 -- either end. Each is a fact of two bits, or of the highest or lowest bit that is set.
 -- Assumes nothing.
-use Prim.Native.Nat.{ℕ, zero, suc, _+_, _-_, _*_, _%_, _^_, _≤_, _<_, min, max}
+use Prim.Native.Nat.{ℕ, zero, suc, _+_, _-_, _*_, _/_, _%_, _^_, _≤_, _<_, min, max}
 use native.Mathlib.Omega.{arith}
-use native.Mathlib.Nat.{pow-suc}
+use native.Mathlib.Nat.{pow-suc, mod-lt, mod-le, div-add-mod'}
 use mathlib.Core.Path.{_≡_, refl, sym, ap, _∙_}
 use mathlib.Core.Bool.{Bool, true, false}
 use mathlib.Core.Logic.{⊎-elim}
@@ -107,7 +107,7 @@ module _ (w g : ℕ) (hw : w < 2 ^ 32) (hg : g < 2 ^ 32) where
       ones-sum 32 (bitXor w g) (xor-lt 32 w g hw hg)
       ∙ sum-same _ _ 32 (λ i l. xor-bit w g i ∙ xor-two (bit w i) (bit g i) (bit-small w i) (bit-small g i))
 
-  lack-bit : (i : ℕ) → i < 32 → bit (bitAnd g ((2 ^ 32 - 1) - w)) i ≡ lacks (clear w i) (clear g i)
+  pub lack-bit : (i : ℕ) → i < 32 → bit (bitAnd g ((2 ^ 32 - 1) - w)) i ≡ lacks (clear w i) (clear g i)
   unfolding clear
   lack-bit i l =
       and-bit g ((2 ^ 32 - 1) - w) i
@@ -165,3 +165,28 @@ module _ (g : ℕ) where
         holds = eq-eqb (1 - bit g (trailingZeros 32 g)) 0 (ap (λ x. 1 - x) (a .set));
         before = λ j lt. ne-eqb (1 - bit g j) 0 (λ z. omega (arith, z, a .before j lt));
       }))
+
+-- the first n bits of a word
+pub cut-word : (w n : ℕ) → w % 2 ^ n ≡ wordOf (clear w) n
+cut-word w n =
+    word-only (clear w) n (w % 2 ^ n) (mod-lt w (pow-pos n))
+    (λ i l.
+    sym (under-bit (w / 2 ^ n) n (w % 2 ^ n) i l)
+    ∙ ap (λ x. bit x i) (div-add-mod' w (2 ^ n))
+    ∙ bit-clear w i)
+
+-- and the code's way to it
+module _ (w n : ℕ) (few : n ≤ 32) where
+  width : (1 * 2 ^ n) % 2 ^ 64 ≡ 2 ^ n
+  width =
+      shl-exact {a = 1} 1 n 64 (omega arith) (omega arith)
+      ∙ (let e : 1 * 2 ^ n ≡ 2 ^ n = omega arith in e)
+
+  pub width-some : 0 < (1 * 2 ^ n) % 2 ^ 64
+  width-some = rw width (pow-pos n)
+
+  pub first-small : w < 2 ^ 32 → w % ((1 * 2 ^ n) % 2 ^ 64) < 2 ^ 32
+  first-small small = omega (arith, mod-le w ((1 * 2 ^ n) % 2 ^ 64))
+
+  pub first-word : w % ((1 * 2 ^ n) % 2 ^ 64) ≡ wordOf (clear w) n
+  first-word = ap (λ x. w % x) width ∙ cut-word w n

@@ -15,6 +15,8 @@ use Rattle.flags.proofs.last_lacking.Kinds as last-lacking
 use Rattle.flags.proofs.last_lacking.Reads as last-lacking-reads
 use Rattle.flags.proofs.count_changed.Kinds as count-changed
 use Rattle.flags.proofs.count_changed.Reads as count-changed-reads
+use Rattle.flags.proofs.word_of.Kinds as word-of
+use Rattle.flags.proofs.word_of.Reads as word-of-reads
 use Rattle.flags.proofs.lowest_failing.Kinds as lowest-failing
 use Rattle.flags.proofs.lowest_failing.Reads as lowest-failing-reads
 use Rattle.flags.proofs.change.Kinds as change
@@ -46,3 +48,6 @@ count-changed-only κs a x y s s′ p q = only p q
 
 pub lowest-failing-only : Only 0 lowest-failing.ps lowest-failing.r lowest-failing-reads.Post
 lowest-failing-only κs a x y s s′ p q = only p q
+
+pub word-of-only : Only 0 word-of.ps word-of.r word-of-reads.Post
+word-of-only κs a x y s s′ p q = only p q

@@ -2,7 +2,7 @@
 -- Assumes nothing.
 use Prim.Native.Nat.{ℕ, zero, suc, _-_, _^_, _≤_, _<_}
 use native.Mathlib.Omega.{arith}
-use native.Mathlib.Nat.{lt-of-lt-of-le}
+use native.Mathlib.Nat.{le-refl, lt-of-lt-of-le}
 use mathlib.Core.Path.{_≡_, refl, sym, ap, _∙_}
 use mathlib.Core.Logic.{_⊎_, ⊎-elim}
 use lib.Pow.{pow-mono}
@@ -36,7 +36,7 @@ clear-small w i = omega arith
 
 -- the word of f, by place
 module _ (f : ℕ → ℕ) (n : ℕ) where
-  word-small : wordOf f n < 2 ^ n
+  pub word-small : wordOf f n < 2 ^ n
   unfolding wordOf
   word-small = bits-small (λ i. isZero (f i)) n (λ i l. zero-small (f i))
 
@@ -69,3 +69,12 @@ word-same f g n m le same rest =
         bit-past n (wordOf g n) i (word-small g n) out ∙ sym (zero-pos (f i) (rest i out lt)))
         (λ (l : i < n). word-bit g n i l ∙ sym (same i l))
         (le-or-lt n i)
+
+pub word-alike : (f g : ℕ → ℕ) (n : ℕ) → ((i : ℕ) → i < n → f i ≡ g i) → wordOf f n ≡ wordOf g n
+word-alike f g n same =
+    word-same f g n n (le-refl n) (λ i l. ap isZero (same i l))
+    (λ i le l. absurd (let z : ⊥ = omega arith in z))
+
+-- every word is the word of what it reads
+pub word-back : (n w : ℕ) → w < 2 ^ n → wordOf (clear w) n ≡ w
+word-back n w small = sym (word-only (clear w) n w small (λ i l. bit-clear w i))

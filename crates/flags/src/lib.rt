@@ -101,6 +101,14 @@ pub fn change(before: u32, after: u32) -> u32
     if before == after { 0 } else { 1 }
 }
 
+// The word of the first n flags, for who holds such a word: zeros from bit n up, for n = 32 too.
+pub fn word_of(flags: Flags, n: usize) -> u32
+    requires { ⌜ n ≤ 32 ⌝ }
+    ensures { λ r. ⌜ r ≡ wordOf (flagIn flags) n ⌝ }
+{
+    ((flags.word as u64) % (1u64 << n)) as u32
+}
+
 // At how many places two hold different flags.
 pub fn count_changed(before: Flags, after: Flags) -> u32
     ensures { λ r. ⌜ r ≡ sumTo (λ i. changed (flagIn before i) (flagIn after i)) 32 ⌝ }

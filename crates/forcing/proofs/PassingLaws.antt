@@ -11,6 +11,7 @@ use mathlib.Core.List.{List}
 use mathlib.Core.Logic.{_⊎_, inl, inr, ⊎-elim}
 use lib.Dec.{eqb}
 use Rattle.base.specs.Sums.{sumTo}
+use Rattle.base.specs.Least.{firstOf}
 use Rattle.base.specs.Rows.{at}
 use Rattle.base.proofs.OrderLaws.{le-or-lt}
 use Rattle.base.proofs.SumLaws.{sum-same}
@@ -25,9 +26,9 @@ use Rattle.table.specs.Table.{policyOf}
 use Rattle.flags.specs.declared.Flags.{Flags}
 use Rattle.flags.specs.Flags.{flagIn, held, lastTo}
 use Rattle.flags.proofs.FlagLaws.{flag-small, zero-flag, held-flag, held-at, held-same}
-use Rattle.flags.proofs.FlagLaws.{none-lacks, lacking-held, held-past, made-held}
+use Rattle.flags.proofs.FlagLaws.{none-lacks, lacking-held, held-past, made-held, lowest-held}
 use Rattle.flags.proofs.LastLaws.{last-past, last-within, last-none, last-some}
-use Rattle.passes.specs.Passes.{Onward, Preempted, Last}
+use Rattle.passes.specs.Passes.{Onward, Preempted, lowestNone, Last}
 use Rattle.passes.proofs.OnwardLaws.{q-sooner, sooner-kept}
 use Rattle.forcing.specs.Forced.{endOf, givenList, finalOf, Ended}
 use Rattle.forcing.proofs.StartLaws.{Sized, flags-read, bound-read, Passing}
@@ -113,16 +114,24 @@ module _ {s : System} (sized : Sized s) {given flags failing : Flags} {end passe
           ∙ sym (test-at s (a .list) k lt)
           ∙ same .bounds k lt
 
-      pub passing-done : {all : List ℕ} {r : ℕ} → Last s (flagIn flags) all r
+      -- the lowest task without a bound, from the word of those that have none in the row
+      pub passing-done : {all : List ℕ} {left : Flags} {r : ℕ} → Last s (flagIn flags) all
+          → left ≡ held (at all) (s .count) → r ≡ firstOf (λ i. eqb (flagIn left i) 0) 32
           → Ended s given all (record { flags = flags; passes = passes; failing = r })
       unfolding lowest
-      passing-done done = record {
+      passing-done {all} {left} {r} done marks is = record {
         flags = a .holds ∙ held-same _ _ (s .count) (sized .few) (same .flags);
         passes = same .passes;
-        failing =
-            done .lowest ∙ first-same _ _ (s .count) (λ k lt. ap (λ x. eqb x 0) (final-is k lt));
-        each = λ z k lt. done .each z k lt ∙ final-is k lt;
+        failing = found ∙ first-same _ _ (s .count) (λ k lt. ap (λ x. eqb x 0) (final-is k lt));
+        each = λ z k lt. done .each (sym found ∙ z) k lt ∙ final-is k lt;
       }
+        where
+          found : r ≡ lowestNone s (flagIn flags)
+          found =
+              is
+              ∙ ap (λ (f : Flags). firstOf (λ i. eqb (flagIn f i) 0) 32) marks
+              ∙ lowest-held (at all) (s .count) (sized .few)
+              ∙ done .lowest
 
     -- some do, and are made non-preemptive
     module _ {next : Flags} (more : last ≡ 0 → ⊥)

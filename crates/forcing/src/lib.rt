@@ -49,11 +49,12 @@ pub fn force_rows<'a>(
         let failing = flags::failing_of(n, bounds);
         let last = flags::last_lacking(flags, failing);
         if last == 0 {
-            let lowest = passes::search_rest(head, inverse, rest, cost, reach, flags, bounds);
+            passes::search_rest(head, inverse, rest, cost, reach, flags, bounds);
+            let left = flags::failing_of(n, bounds);
             return Forced {
                 flags: flags,
                 passes: passes,
-                failing: lowest,
+                failing: flags::lowest_failing(left),
             };
         }
         let next = flags::with_failing(flags, failing);

@@ -22,7 +22,7 @@ fn letter(d: u8) -> u8
 }
 
 // The two digits of a byte; the answer is the place after them.
-fn put_byte(out: &mut [u8], at: usize, b: u8) -> usize
+pub fn put_byte(out: &mut [u8], at: usize, b: u8) -> usize
     requires { ⌜ at + 2 ≤ length (now out) ⌝ }
     ensures { λ r. ⌜ Put (now (out .entry)) at (bytesText (b ∷ [])) r (now (out .exit)) ⌝ }
 {

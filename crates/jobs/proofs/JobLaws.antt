@@ -14,10 +14,10 @@ use Rattle.told.proofs.ToldLaws.{yes-third}
 use Rattle.jobs.specs.Jobs.{Heard, Told}
 
 -- the numbers of an answer are what is heard of it
-pub heard-whole : (a : Asked) (ans told ans′ : List ℕ) → told ≡ toldOf (a .answer) (a .count)
+pub heard-whole : (a : Asked) (ans told ans′ : List ℕ) → told ≡ toldOf (a .answer) (a .count) (a .word)
     → ans′ ≡ toldAfter told ans → Heard a ans (getD told 2 0) ans′
 heard-whole a ans told ans′ e written = record {
-  yes = ap (λ l. getD l 2 0) e ∙ yes-third (a .answer) (a .count);
+  yes = ap (λ l. getD l 2 0) e ∙ yes-third (a .answer) (a .count) (a .word);
   answer = written ∙ ap (λ l. toldAfter l ans) e;
 }
 
@@ -29,10 +29,11 @@ few-asked asked small = omega (arith, asked .count, small .few)
 -- with the records that are written, it is what is told of the answer by value
 pub told-whole : {d : Done} {old ans : List ℕ} {a : Asked} {r : ℕ} {new ans′ : List ℕ} → AskedAs d old a new
     → Heard a ans r ans′ → Told d old ans r new ans′
-told-whole {ans = ans} asked heard = record {
+told-whole {d = d} {ans = ans} {a = a} asked heard = record {
   yes = heard .yes ∙ ap (λ (x : Answer). yesOf x) (asked .answer);
   records = asked .records;
   answer =
       heard .answer
-      ∙ ap₂ (λ (x : Answer) n. toldAfter (toldOf x n) ans) (asked .answer) (asked .count);
+      ∙ ap₂ (λ (x : Answer) n. toldAfter (toldOf x n (a .word)) ans) (asked .answer) (asked .count)
+      ∙ ap (λ w. toldAfter (toldOf (d .answer) (d .count) w) ans) (asked .word);
 }

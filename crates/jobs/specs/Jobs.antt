@@ -11,6 +11,7 @@ use lib.ListN.{length}
 use Rattle.planner.specs.declared.Done.{Done}
 use Rattle.planner.specs.declared.Job.{Job}
 use Rattle.planner.specs.Done.{planDone, listDone}
+use Rattle.words.specs.Word.{wordOfDone}
 use Rattle.flat.specs.Flat.{countIn, tasksIn, flatAfter}
 use Rattle.asked.specs.declared.Asked.{Asked}
 use Rattle.told.specs.Told.{yesOf, toldOf, toldAfter}
@@ -19,12 +20,12 @@ use Rattle.told.specs.Told.{yesOf, toldOf, toldAfter}
 pub record Told (d : Done) (old told : List ℕ) (r : ℕ) (new told′ : List ℕ) : Type 0 where
   pub yes : r ≡ yesOf (d .answer)
   pub records : new ≡ flatAfter d old
-  pub answer : told′ ≡ toldAfter (toldOf (d .answer) (d .count)) told
+  pub answer : told′ ≡ toldAfter (toldOf (d .answer) (d .count) (wordOfDone d)) told
 
 -- the same where the records are written already
 pub record Heard (a : Asked) (told : List ℕ) (r : ℕ) (told′ : List ℕ) : Type 0 where
   pub yes : r ≡ yesOf (a .answer)
-  pub answer : told′ ≡ toldAfter (toldOf (a .answer) (a .count)) told
+  pub answer : told′ ≡ toldAfter (toldOf (a .answer) (a .count) (a .word)) told
 
 -- the promise of job_plan; eskihrum_flat_test_plan and eskihrum_flat_force_plan promise it of their job
 abbrev pub PlanTold : Job → List ℕ → List ℕ → List ℕ → ℕ → List ℕ → List ℕ → Type 0

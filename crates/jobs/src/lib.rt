@@ -12,7 +12,7 @@ fn tell(answer: &mut [u32], asked: Asked) -> u32
 {
     let n = asked.count;
     let found = asked.answer;
-    let told = told::told_of(found, n as u32);
+    let told = told::told_of(found, n as u32, asked.word);
     told::put_told(answer, told);
     told[2]
 }

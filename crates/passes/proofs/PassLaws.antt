@@ -4,6 +4,7 @@
 use Prim.Native.Nat.{ℕ, _+_, _-_, _≤_, _<_}
 use native.Mathlib.Omega.{arith}
 use mathlib.Core.Path.{_≡_, refl, sym, ap, _∙_, subst}
+use mathlib.Core.Bool.{true}
 use mathlib.Core.List.{List}
 use lib.ListN.{length, set, length-set}
 use lib.Seq.{getD-set-same, getD-set-other}
@@ -11,10 +12,10 @@ use lib.Dec.{eqb}
 use borrow.Author.Tests.{eq-eqb, ne-eqb}
 use Rattle.base.specs.Rows.{at}
 use Rattle.base.proofs.OrderLaws.{below-none, below-next}
-use Rattle.base.proofs.FirstLaws.{NoneTo, find-start, find-step, find-here, find-none}
+use Rattle.base.proofs.FirstLaws.{NoneTo, find-start, find-step, find-here, first-same}
 use Rattle.model.specs.Bound.{System, bound}
 use Rattle.bound.specs.Ahead.{NoneSooner}
-use Rattle.passes.specs.Passes.{qOf, Floors, Onward, Preempted, Last}
+use Rattle.passes.specs.Passes.{qOf, Floors, Onward, Preempted, lowestNone, Last}
 
 -- searching on: what is done of the first k tasks
 pub onward-start : {s : System} {fl : ℕ → ℕ} {xs : List ℕ} → Floors s fl xs → Onward s fl 0 xs xs
@@ -93,14 +94,24 @@ module _ {s : System} {fl : ℕ → ℕ} {xs : List ℕ} {k : ℕ} (a : Resting 
     none = find-step _ (a .none) (ne-eqb (bound s fl k) 0 (λ z. omega (arith, p .some k lt (omega arith))));
   }
 
-  pub rest-here : {r v : ℕ} → r ≡ k + 1 → k < s .count → v ≡ bound s fl k → v ≡ 0 → Last s fl xs r
-  rest-here {r} is lt e none = record {
-    lowest = is ∙ find-here _ (a .none) lt (eq-eqb _ 0 (sym e ∙ none));
-    each = λ z. absurd (let y : ⊥ = omega arith in y);
+  pub rest-here : {v : ℕ} → k < 32 → k < s .count → v ≡ bound s fl k → v ≡ 0 → Last s fl (set xs k v)
+  rest-here {v} small lt e none = record {
+    lowest = sym (find-here _ before lt here) ∙ first;
+    each = λ z. absurd (let y : ⊥ = omega (arith, first) in y);
   }
+    where
+      first : k + 1 ≡ lowestNone s fl
+      first = find-here _ (a .none) lt (eq-eqb _ 0 (sym e ∙ none))
 
-  pub rest-end : k ≤ s .count → s .count ≤ k → Last s fl xs 0
+      before : NoneTo (λ j. eqb (at (set xs k v) j) 0) k
+      before j less =
+          ap (λ x. eqb x 0) (getD-set-other xs k j v 0 (λ z. omega arith) ∙ a .known j less) ∙ a .none j less
+
+      here : eqb (at (set xs k v) k) 0 ≡ true
+      here = eq-eqb _ 0 (getD-set-same xs k v 0 (omega (arith, a .size)) ∙ none)
+
+  pub rest-end : k ≤ s .count → s .count ≤ k → Last s fl xs
   rest-end low high = record {
-    lowest = find-none _ (a .none) high;
+    lowest = first-same _ _ (s .count) (λ j lt. ap (λ x. eqb x 0) (a .known j (omega arith)));
     each = λ z j lt. a .known j (omega arith);
   }

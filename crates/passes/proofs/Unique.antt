@@ -3,10 +3,12 @@
 use Prim.Native.Nat.{ℕ, _<_}
 use mathlib.Core.Path.{_≡_}
 use mathlib.Core.List.{List}
+use lib.Dec.{eqb}
+use Rattle.base.specs.Least.{firstOf}
 use Rattle.base.specs.Rows.{at, row}
 use Rattle.base.proofs.Unique.{only}
 use Rattle.model.specs.Bound.{System, bound}
-use Rattle.passes.specs.Passes.{Onward, Last}
+use Rattle.passes.specs.Passes.{Onward, lowestNone, Last}
 
 pub test-rows-only : (s : System) (fl : ℕ → ℕ) (n : ℕ) {xs ys : List ℕ} → xs ≡ row 0 (bound s fl) n
     → ys ≡ row 0 (bound s fl) n → xs ≡ ys
@@ -17,9 +19,10 @@ module _ {s : System} {fl : ℕ → ℕ} where
       → (k : ℕ) → k < end → 0 < fl k → at xs k ≡ at ys k
   search-on-only a b k lt pre = only (a .found k lt pre) (b .found k lt pre)
 
-  pub search-rest-only : {xs ys : List ℕ} {r r′ : ℕ} → Last s fl xs r → Last s fl ys r′
-      → (r ≡ r′) × (r ≡ 0 → r′ ≡ 0 → (k : ℕ) → k < s .count → at xs k ≡ at ys k)
+  pub search-rest-only : {xs ys : List ℕ} → Last s fl xs → Last s fl ys
+      → (firstOf (λ k. eqb (at xs k) 0) (s .count) ≡ firstOf (λ k. eqb (at ys k) 0) (s .count))
+      × (lowestNone s fl ≡ 0 → (k : ℕ) → k < s .count → at xs k ≡ at ys k)
   search-rest-only a b = (
     only (a .lowest) (b .lowest),
-    λ z z′ k lt. only (a .each z k lt) (b .each z′ k lt),
+    λ z k lt. only (a .each z k lt) (b .each z k lt),
   )

@@ -7,8 +7,8 @@
 --   after it: the bound of each preemptive task before     Onward s fl end before after
 --   `end`, the others as they were
 --   all preemptive tasks have bounds                       Preempted s fl bounds
---   the lowest task without a bound, 0 for none; then      Last s fl bounds r
---   each task has its own
+--   the lowest task without a bound is the lowest with 0   Last s fl bounds
+--   in its place; where there is none, each has its own
 --
 -- Assumes nothing.
 use Prim.Native.Nat.{ℕ, _-_, _≤_, _<_}
@@ -39,6 +39,10 @@ pub record Preempted (s : System) (fl : ℕ → ℕ) (bounds : List ℕ) : Type 
   pub known : (k : ℕ) → k < s .count → 0 < fl k → at bounds k ≡ bound s fl k
   pub some : (k : ℕ) → k < s .count → 0 < fl k → 0 < bound s fl k
 
-pub record Last (s : System) (fl : ℕ → ℕ) (bounds : List ℕ) (r : ℕ) : Type 0 where
-  pub lowest : r ≡ firstOf (λ k. eqb (bound s fl k) 0) (s .count)
-  pub each : r ≡ 0 → (k : ℕ) → k < s .count → at bounds k ≡ bound s fl k
+-- the number of the lowest task without a bound, 0 for none
+abbrev pub lowestNone : System → (ℕ → ℕ) → ℕ
+lowestNone s fl = firstOf (λ k. eqb (bound s fl k) 0) (s .count)
+
+pub record Last (s : System) (fl : ℕ → ℕ) (bounds : List ℕ) : Type 0 where
+  pub lowest : firstOf (λ k. eqb (at bounds k) 0) (s .count) ≡ lowestNone s fl
+  pub each : lowestNone s fl ≡ 0 → (k : ℕ) → k < s .count → at bounds k ≡ bound s fl k

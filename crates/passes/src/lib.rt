@@ -68,8 +68,8 @@ pub fn search_on<'a>(
     }
 }
 
-// Where each preemptive task has its bound: the others, up to the first that has none. The number of that
-// task, and 0 where each task has its bound in the row.
+// Where each preemptive task has its bound: the others, up to the first that has none, which leaves a 0 in
+// its place. Where there is no 0, each task has its bound in the row.
 pub fn search_rest<'a>(
     head: Head,
     inverse: &'a [u64; 32],
@@ -78,25 +78,22 @@ pub fn search_rest<'a>(
     reach: &'a [u32; 32],
     flags: Flags,
     bounds: &'a mut [u32; 32],
-) -> u32
+)
     requires { ⌜ (LegalRows head (now inverse) (now rest) (now cost) (now reach))
         × (Preempted (systemIn head (now rest) (now cost) (now reach)) (flagIn flags) (now bounds)) ⌝ }
-    ensures { λ r. ⌜ Last (systemIn head (now (rest .entry)) (now (cost .entry)) (now (reach .entry)))
-        (flagIn flags) (now (bounds .exit)) r ⌝ }
+    ensures { λ _. ⌜ Last (systemIn head (now (rest .entry)) (now (cost .entry)) (now (reach .entry)))
+        (flagIn flags) (now (bounds .exit)) ⌝ }
 {
     let n = head.n;
     let mut k: usize = 0;
-    let mut place: u32 = 0;
     while k < n {
-        place += 1;
         if flags::flag_at(flags, k) == 0 {
             let found = bound::bound_of(head, inverse, rest, cost, reach, flags, k, 0);
-            if found == 0 {
-                return place;
-            }
             bounds[k] = found;
+            if found == 0 {
+                return;
+            }
         }
         k += 1;
     }
-    0
 }

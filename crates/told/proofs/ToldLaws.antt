@@ -58,16 +58,16 @@ module _ (told old : List ℕ) (n : ℕ) where
         (let y : i ≡ min (length old) 16 = omega (arith, a .low) in y)
 
 -- the third number is the yes
-pub yes-third : (a : Answer) (n : ℕ) → getD (toldOf a n) 2 0 ≡ yesOf a
+pub yes-third : (a : Answer) (n w : ℕ) → getD (toldOf a n w) 2 0 ≡ yesOf a
 unfolding fields
-yes-third a n = refl
+yes-third a n w = refl
 
 -- the numbers of each case of an answer
-pub given-told : {a : Answer} {v : Verdict} (n : ℕ) {x : ℕ} {l : List ℕ} → a ≡ Given v → x ≡ asNumber (v .yes)
-    → l ≡ fields 0 0 x (v .forced) (v .passes) n 0 → l ≡ toldOf a n
-given-told {v = v} n e ex el =
-    rw e (el ∙ ap (λ y. fields 0 0 y (v .forced) (v .passes) n 0) ex)
+pub given-told : {a : Answer} {v : Verdict} (n w : ℕ) {x : ℕ} {l : List ℕ} → a ≡ Given v
+    → x ≡ asNumber (v .yes) → l ≡ fields 0 0 x (v .forced) (v .passes) n w 0 → l ≡ toldOf a n w
+given-told {v = v} n w e ex el =
+    rw e (el ∙ ap (λ y. fields 0 0 y (v .forced) (v .passes) n w 0) ex)
 
-pub refused-told : {a : Answer} {why : Refusal} {p : ℕ} (n : ℕ) {l : List ℕ} → a ≡ Refused why p
-    → l ≡ fields (why .number) (why .place) 0 0 p n 0 → l ≡ toldOf a n
-refused-told n e el = rw e el
+pub refused-told : {a : Answer} {why : Refusal} {p : ℕ} (n w : ℕ) {l : List ℕ} → a ≡ Refused why p
+    → l ≡ fields (why .number) (why .place) 0 0 p n w 0 → l ≡ toldOf a n w
+refused-told n w e el = rw e el

@@ -14,9 +14,10 @@ pub fn fields_of(
     forced: u32,
     passes: u32,
     records: u32,
+    word: u32,
     end: usize,
 ) -> [u32; 16]
-    ensures { λ r. ⌜ r ≡ fields number place yes forced passes records end ⌝ }
+    ensures { λ r. ⌜ r ≡ fields number place yes forced passes records word end ⌝ }
 {
     [
         number,
@@ -27,7 +28,7 @@ pub fn fields_of(
         records,
         0,
         0,
-        0,
+        word,
         (end % 4294967296) as u32,
         (end / 4294967296) as u32,
         0,
@@ -45,12 +46,14 @@ fn as_number(b: bool) -> u32
     if b { 1 } else { 0 }
 }
 
-// An answer in numbers, with the number of records that are written.
-pub fn told_of(answer: Answer, records: u32) -> [u32; 16]
-    ensures { λ r. ⌜ r ≡ toldOf answer records ⌝ }
+// An answer in numbers, with the number of records that are written and their flags in one word.
+pub fn told_of(answer: Answer, records: u32, word: u32) -> [u32; 16]
+    ensures { λ r. ⌜ r ≡ toldOf answer records word ⌝ }
 {
     match answer {
-        Answer::Given(v) => fields_of(0, 0, as_number(v.yes), v.forced, v.passes, records, 0),
+        Answer::Given(v) => {
+            fields_of(0, 0, as_number(v.yes), v.forced, v.passes, records, word, 0)
+        }
         Answer::Refused { why, passes } => fields_of(
             why.number,
             why.place,
@@ -58,6 +61,7 @@ pub fn told_of(answer: Answer, records: u32) -> [u32; 16]
             0,
             passes,
             records,
+            word,
             0,
         ),
     }

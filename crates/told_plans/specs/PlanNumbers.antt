@@ -14,9 +14,9 @@ use Rattle.changer.specs.declared.Changed.{Changed}
 use Rattle.changer.specs.declared.Changed.the-variants.{End as Ends, Refused as Stopped}
 
 abbrev pub writtenTold : Written → List ℕ
-writtenTold (End e) = fields 0 0 1 0 0 0 e
-writtenTold (Refused why) = fields (why .number) (why .place) 0 0 0 0 0
+writtenTold (End e) = fields 0 0 1 0 0 0 0 e
+writtenTold (Refused why) = fields (why .number) (why .place) 0 0 0 0 0 0
 
 abbrev pub changedTold : Changed → List ℕ
-changedTold (Ends e) = fields 0 0 1 0 0 0 e
-changedTold (Stopped why passes) = fields (why .number) (why .place) 0 0 passes 0 0
+changedTold (Ends e) = fields 0 0 1 0 0 0 0 e
+changedTold (Stopped why passes) = fields (why .number) (why .place) 0 0 passes 0 0 0

@@ -10,8 +10,8 @@ pub fn told_written(w: Written) -> [u32; 16]
     ensures { λ r. ⌜ r ≡ writtenTold w ⌝ }
 {
     match w {
-        Written::End(end) => told::fields_of(0, 0, 1, 0, 0, 0, end),
-        Written::Refused(why) => told::fields_of(why.number, why.place, 0, 0, 0, 0, 0),
+        Written::End(end) => told::fields_of(0, 0, 1, 0, 0, 0, 0, end),
+        Written::Refused(why) => told::fields_of(why.number, why.place, 0, 0, 0, 0, 0, 0),
     }
 }
 
@@ -20,9 +20,9 @@ pub fn told_changed(c: Changed) -> [u32; 16]
     ensures { λ r. ⌜ r ≡ changedTold c ⌝ }
 {
     match c {
-        Changed::End(end) => told::fields_of(0, 0, 1, 0, 0, 0, end),
+        Changed::End(end) => told::fields_of(0, 0, 1, 0, 0, 0, 0, end),
         Changed::Refused { why, passes } => {
-            told::fields_of(why.number, why.place, 0, 0, passes, 0, 0)
+            told::fields_of(why.number, why.place, 0, 0, passes, 0, 0, 0)
         }
     }
 }

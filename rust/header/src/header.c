@@ -2,7 +2,7 @@
  * wrapper answers is handed on by the names of its fields, in an order of this file's own. */
 #include "eskihrum.h"
 
-enum { FIELDS = 6 };
+enum { FIELDS = 7 };
 
 static void hand_on(eskihrum_answer answer, uint32_t told[FIELDS]) {
     told[0] = answer.records;
@@ -11,6 +11,7 @@ static void hand_on(eskihrum_answer answer, uint32_t told[FIELDS]) {
     told[3] = answer.yes;
     told[4] = answer.place;
     told[5] = answer.number;
+    told[6] = answer.word;
 }
 
 void header_test_plan(const uint8_t *text, size_t bytes, eskihrum_record *records, size_t room,
@@ -100,6 +101,7 @@ static void take_apart(uint64_t answer, uint32_t told[FIELDS]) {
     told[3] = ESKIHRUM_YES(answer);
     told[4] = ESKIHRUM_PLACE(answer);
     told[5] = ESKIHRUM_NUMBER(answer);
+    told[6] = 0;
 }
 
 void header_plan(int force, const uint8_t *text, size_t bytes, uint32_t *records, size_t records_len,
@@ -117,8 +119,6 @@ uint32_t header_reserved(const uint8_t *text, size_t bytes, eskihrum_record *rec
     eskihrum_answer answer = eskihrum_force_plan(text, bytes, records, room);
     uint32_t all = 0;
     for (size_t i = 0; i < sizeof answer.reserved / sizeof answer.reserved[0]; i++) all |= answer.reserved[i];
-    for (size_t i = 0; i < sizeof answer.reserved2 / sizeof answer.reserved2[0]; i++)
-        all |= answer.reserved2[i];
     return all | answer.rounds | answer.cores | answer.end_low | answer.end_high;
 }
 

@@ -17,6 +17,7 @@ pub struct Told {
     pub yes: u32,
     pub place: u32,
     pub number: u32,
+    pub word: u32,
 }
 
 extern "C" {

@@ -2,7 +2,7 @@
 
 use eskihrum_header::{older_plan, older_tasks, plan, plan_2, tasks, tasks_2, write_changed, write_tasks};
 use eskihrum_header::{Record, Task, Told};
-use second::compare::{short, Compared, Planner, FORCE};
+use second::compare::{flags_word, short, Compared, Planner, FORCE};
 use second::compare_writing::{compared, Said, Writer};
 use second::edition2_compare as editions;
 
@@ -29,6 +29,7 @@ fn as_records(numbers: &mut [u32], run: impl FnOnce(&mut [Record]) -> Told) -> u
     for (three, record) in numbers.chunks_mut(3).zip(&records) {
         three.copy_from_slice(record);
     }
+    assert_eq!(told.word, flags_word(&numbers[..3 * changed]), "the flags in one word");
     word(told)
 }
 
@@ -46,8 +47,8 @@ fn wrapped_list(job: u32, cores: u32, policy: u32, numbers: &[u32], records: &mu
 
 /// The end place, or the refusal; no other field says anything.
 fn said((told, end): (Told, usize)) -> Said {
-    let Told { records, passes, forced, yes, place, number } = told;
-    assert_eq!((records, forced, yes), (0, 0, u32::from(number == 0)), "what a writer says");
+    let Told { records, passes, forced, yes, place, number, word } = told;
+    assert_eq!((records, forced, yes, word), (0, 0, u32::from(number == 0), 0), "what a writer says");
     if number == 0 {
         assert_eq!((place, passes), (0, 0), "an end without a refusal");
         return Ok(end);

@@ -47,9 +47,17 @@ fn forcing_forces() {
     for by_text in [true, false] {
         let mut room = [KEPT; 3];
         let told = if by_text { plan(true, B, &mut room) } else { tasks(true, 1, FP, &TASKS, &mut room) };
-        assert_eq!(told, given(1, 2, 3, 2));
+        assert_eq!(told, Told { word: 0b11, ..given(1, 2, 3, 2) });
         assert_eq!(room, [B_FORCED[0], B_FORCED[1], KEPT]);
     }
+}
+
+/// A 1 for each non-preemptive task, bit 0 for task 1: here as given, of three tasks that pass.
+#[test]
+fn the_word_is_in_order() {
+    let list = [[0, 100, 1, 50], [1, 100, 1, 60], [1, 100, 1, 70]];
+    let told = tasks(true, 1, FP, &list, &mut [KEPT; 3]);
+    assert_eq!(told, Told { word: 0b001, ..given(1, 0, 1, 3) });
 }
 
 /// Under the second edition case b passes as sent, in three rounds; case f ends in 15, and i is accepted.
@@ -104,7 +112,8 @@ fn the_largest_counts_arrive_whole() {
     let mut accepted = [[1, 1_000_000, 1, 34]; 32];
     accepted[0] = [1, 33, 1, 33];
     accepted[31] = [1, 1_000_000, 3, 35];
-    assert_eq!(tasks(true, 1, FP, &accepted, &mut [KEPT; 32]), given(1, 32, 33, 32));
+    let told = tasks(true, 1, FP, &accepted, &mut [KEPT; 32]);
+    assert_eq!(told, Told { word: u32::MAX, ..given(1, 32, 33, 32) });
     assert_eq!(older_tasks(true, 1, FP, &accepted.concat(), &mut [7; 96]), given(1, 32, 33, 0));
     let too_much = [[1, 1_000_000, 1, 31]; 32];
     assert_eq!(tasks(true, 1, FP, &too_much, &mut [KEPT; 32]), refused(14, 32, 33));

@@ -4,7 +4,7 @@ use mathlib.Core.Path.{refl}
 use borrow.Author.Needs.{needs}
 use Rattle.planner.proofs.CountLaws.{plan-small}
 use Rattle.flat.proofs.FlatLaws.{flat-fits}
-use Rattle.asked.proofs.AskedLaws.{plan-rows, plan-is, asked-as}
+use Rattle.asked.proofs.AskedLaws.{plan-rows, plan-is, few-said, asked-as}
 use Rattle.asked.proofs.plan_asked.Statement.{statement}
 use Rattle.asked.proofs.plan_asked.Tie as tie
 
@@ -18,19 +18,25 @@ answered-requires c κs =
 
 put-said-requires : tie.Need-put-said-requires
 put-said-requires c κs =
-    let said = c .before .before in
+    let said = c .before .before .before in
     let load = said .before .before .before .before .before .before .before in
     flat-fits _ _ _ (plan-is _ (load .load-plan .ensures) _ _ (said .answered .ensures)) (plan-small _ _ _)
 
+word-of-requires : tie.Need-word-of-requires
+word-of-requires c κs =
+    let said = c .before .before .before .before .before .before in
+    let load = said .before .before .before .before .before .before .before in
+    few-said _ _ _ (plan-is _ (load .load-plan .ensures) _ _ (said .answered .ensures)) (plan-small _ _ _)
+
 returns : tie.Need-returns
 returns c =
-    let put = c .before .before in
-    let said = put .before .before .before in
+    let put = c .before .before .before in
+    let said = put .before .before .before .before in
     let load = said .before .before .before .before .before .before .before in
-    asked-as _ _ _ _ (plan-is _ (load .load-plan .ensures) _ _ (said .answered .ensures))
-    (put .put-said .ensures)
+    asked-as _ _ _ (plan-is _ (load .load-plan .ensures) _ _ (said .answered .ensures)) (plan-small _ _ _) _
+    (put .put-said .ensures) (c .word-of .ensures)
 
 pub plan-asked-spec : {M : Type 1} → statement M
 plan-asked-spec =
     tie.close
-    (tie.spec load-requires answered-requires put-said-requires (λ c. search needs) returns)
+    (tie.spec load-requires answered-requires put-said-requires word-of-requires (λ c. search needs) returns)

@@ -4,7 +4,7 @@ use mathlib.Core.Path.{refl}
 use borrow.Author.Needs.{needs}
 use Rattle.planner.proofs.CountLaws.{list-small}
 use Rattle.flat.proofs.FlatLaws.{flat-fits}
-use Rattle.asked.proofs.AskedLaws.{list-rows, list-is, asked-as}
+use Rattle.asked.proofs.AskedLaws.{list-rows, list-is, few-said, asked-as}
 use Rattle.asked.proofs.tasks_asked.Statement.{statement}
 use Rattle.asked.proofs.tasks_asked.Tie as tie
 
@@ -19,22 +19,30 @@ answered-requires c κs =
 
 put-said-requires : tie.Need-put-said-requires
 put-said-requires c κs =
-    let said = c .before .before in
+    let said = c .before .before .before in
     let load = said .before .before .before .before .before .before .before in
     let xs = load .before .before .before .before .before .before .before .args .tasks .now in
     flat-fits _ _ _ (list-is _ _ xs (load .load-list .ensures) _ _ (said .answered .ensures))
     (list-small _ _ _ _ _ _)
 
-returns : tie.Need-returns
-returns c =
-    let put = c .before .before in
-    let said = put .before .before .before in
+word-of-requires : tie.Need-word-of-requires
+word-of-requires c κs =
+    let said = c .before .before .before .before .before .before in
     let load = said .before .before .before .before .before .before .before in
     let xs = load .before .before .before .before .before .before .before .args .tasks .now in
-    asked-as _ _ _ _ (list-is _ _ xs (load .load-list .ensures) _ _ (said .answered .ensures))
-    (put .put-said .ensures)
+    few-said _ _ _ (list-is _ _ xs (load .load-list .ensures) _ _ (said .answered .ensures))
+    (list-small _ _ _ _ _ _)
+
+returns : tie.Need-returns
+returns c =
+    let put = c .before .before .before in
+    let said = put .before .before .before .before in
+    let load = said .before .before .before .before .before .before .before in
+    let xs = load .before .before .before .before .before .before .before .args .tasks .now in
+    asked-as _ _ _ (list-is _ _ xs (load .load-list .ensures) _ _ (said .answered .ensures))
+    (list-small _ _ _ _ _ _) _ (put .put-said .ensures) (c .word-of .ensures)
 
 pub tasks-asked-spec : {M : Type 1} → statement M
 tasks-asked-spec =
     tie.close
-    (tie.spec load-requires answered-requires put-said-requires (λ c. search needs) returns)
+    (tie.spec load-requires answered-requires put-said-requires word-of-requires (λ c. search needs) returns)

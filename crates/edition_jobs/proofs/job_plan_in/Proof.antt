@@ -1,23 +1,19 @@
--- `edition_jobs::job_plan_in` meets its contract: the answer by value, told.
+-- `edition_jobs::job_plan_in` meets its contract: the answer in parts, told.
 -- Assumes nothing.
-use mathlib.Core.Path.{ap}
-use Rattle.edition_2.specs.declared.Rounded.{Rounded}
-use Rattle.editions.proofs.CountLaws.{plan-in-small}
-use Rattle.flat.proofs.FlatLaws.{flat-fits}
-use Rattle.edition_jobs.proofs.JobLaws.{plan-told}
 use borrow.Author.Needs.{needs}
+use Rattle.editions.proofs.CountLaws.{plan-in-small}
+use Rattle.edition_jobs.proofs.JobLaws.{few-asked, told-whole}
 use Rattle.edition_jobs.proofs.job_plan_in.Statement.{statement}
 use Rattle.edition_jobs.proofs.job_plan_in.Tie as tie
 
 tell-requires : tie.Need-tell-requires
 tell-requires c κs =
-    flat-fits _ _ _ (ap (λ (z : Rounded). z .done) (c .before .before .plan-in .ensures))
-    (plan-in-small _ _ _ _)
+    few-asked (c .before .before .before .plan-asked-in .ensures) (plan-in-small _ _ _ _)
 
 returns : tie.Need-returns
 returns c =
-    plan-told _ _ _ _ _ _ _ _ _ (c .before .before .before .before .before .before .before .plan-in .ensures)
-    (c .before .before .before .before .tell .ensures)
+    let tell = c .before .before in
+    told-whole (tell .before .before .before .before .plan-asked-in .ensures) (tell .tell .ensures)
 
 pub job-plan-in-spec : {M : Type 1} → statement M
 job-plan-in-spec =

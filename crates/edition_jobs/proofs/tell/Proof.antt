@@ -1,19 +1,17 @@
--- `edition_jobs::tell` meets its contract: the numbers of the answer, its rounds, then its records.
+-- `edition_jobs::tell` meets its contract: the numbers of the answer, and its rounds.
 -- Assumes nothing.
 use borrow.Author.Needs.{needs}
-use Rattle.edition_jobs.proofs.JobLaws.{told-whole}
+use Rattle.edition_jobs.proofs.JobLaws.{heard-whole}
 use Rattle.edition_jobs.proofs.tell.Statement.{statement}
 use Rattle.edition_jobs.proofs.tell.Tie as tie
 
 returns : tie.Need-returns
 returns c =
-    told-whole _ _ _ _ _ _
-    (c .before .before .before .before .before .before .before .before .told-of .ensures)
-    (c .before .before .before .before .before .before .put-told .ensures)
-    (c .before .before .put-records .ensures)
+    let put = c .before .before in
+    heard-whole _ _ _ _ (put .before .before .told-of .ensures) (put .put-told .ensures)
 
 pub tell-spec : {M : Type 1} → statement M
 tell-spec =
     tie.close
     (tie.spec (λ c. search needs) (λ c κs. search needs) (λ c. search needs) (λ c κs. search needs)
-    (λ c κs. search needs) (λ c. search needs) (λ c. search needs) (λ c. search needs) returns)
+    (λ c. search needs) (λ c. search needs) returns)

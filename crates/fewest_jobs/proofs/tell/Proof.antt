@@ -7,7 +7,8 @@ use Rattle.fewest_jobs.proofs.tell.Tie as tie
 
 returns : tie.Need-returns
 returns c =
-    told-whole _ _ _ _ _ _
+    told-whole _ _ _ _ _ _ _
+    (c .before .before .before .before .before .before .before .before .before .done-word .ensures)
     (c .before .before .before .before .before .before .before .before .told-of .ensures)
     (c .before .before .before .before .before .before .put-told .ensures)
     (c .before .before .put-records .ensures)
@@ -15,5 +16,6 @@ returns c =
 pub tell-spec : {M : Type 1} → statement M
 tell-spec =
     tie.close
-    (tie.spec (λ c. search needs) (λ c κs. search needs) (λ c. search needs) (λ c κs. search needs)
-    (λ c κs. search needs) (λ c. search needs) (λ c. search needs) (λ c. search needs) returns)
+    (tie.spec (λ c. search needs) (λ c κs. search needs) (λ c κs. search needs) (λ c. search needs)
+    (λ c κs. search needs) (λ c κs. search needs) (λ c. search needs) (λ c. search needs)
+    (λ c. search needs) returns)

@@ -44,16 +44,24 @@ search-rest-requires c κs =
           (failed .failing-of .ensures) (counted .last-lacking .ensures) (c .before .if1 .taken),
     )
 
+failing-of-requires-2 : tie.Need-failing-of-requires-2 Inv-loop μ-loop
+failing-of-requires-2 c κs =
+    let counted = c .before .before .before .before in
+    counted .before .before .before .before .before .before .pre .0 .count
+
 returns : tie.Need-returns Inv-loop μ-loop
 returns c =
-    let counted = c .before .before .before in
+    let left = c .before in
+    let rested = left .before .before in
+    let ended = rested .before .before in
+    let counted = ended .before in
     let failed = counted .before in
     let passed = failed .before .before in
     let turn = passed .before .before in
     let s = turn .before in
     passing-done (rows-sized (s .pre .0)) (turn .loop .inv) (passed .search-on .ensures)
-    (failed .failing-of .ensures) (counted .last-lacking .ensures) (c .before .before .if1 .taken)
-    (c .search-rest .ensures)
+    (failed .failing-of .ensures) (counted .last-lacking .ensures) (ended .if1 .taken)
+    (rested .search-rest .ensures) (left .failing-of2 .ensures) (c .lowest-failing .ensures)
 
 add-passes : tie.Need-add-passes Inv-loop μ-loop
 add-passes c =
@@ -88,5 +96,6 @@ pub force-rows-spec : {M : Type 1} → statement M
 force-rows-spec =
     tie.close
     (tie.spec Inv-loop μ-loop loop-holds search-on-requires failing-of-requires (λ c κs. search needs)
-    search-rest-requires returns (λ c κs. search needs) (λ c κs. search needs) add-passes loop-less
+    search-rest-requires failing-of-requires-2 (λ c κs. search needs) returns (λ c κs. search needs)
+    (λ c κs. search needs) add-passes loop-less
     loop-again)

@@ -2,7 +2,7 @@
 -- Assumes nothing.
 use Prim.Native.Nat.{_-_, _≤_}
 use native.Mathlib.Omega.{arith}
-use mathlib.Core.Path.{_≡_, refl, _∙_}
+use mathlib.Core.Path.{_∙_}
 use mathlib.Core.Logic.{⊎-elim}
 use borrow.Author.Needs.{needs}
 use Rattle.flags.specs.Flags.{flagIn}
@@ -13,17 +13,14 @@ use Rattle.passes.proofs.search_rest.Statement.{statement}
 use Rattle.passes.proofs.search_rest.Tie as tie
 
 abbrev Inv-loop : tie.InvT-loop
-Inv-loop head inverse rest cost reach flags bounds₀ n k₀ place₀ bounds k place =
-    (k ≤ n) × (place ≡ k) × (Resting (systemIn head rest cost reach) (flagIn flags) bounds k)
+Inv-loop head inverse rest cost reach flags bounds₀ n k₀ bounds k =
+    (k ≤ n) × (Resting (systemIn head rest cost reach) (flagIn flags) bounds k)
 
 abbrev μ-loop : tie.MeasureT-loop
-μ-loop head inverse rest cost reach flags bounds₀ n k₀ place₀ bounds k place = n - k
+μ-loop head inverse rest cost reach flags bounds₀ n k₀ bounds k = n - k
 
 loop-holds : tie.Need-loop-holds Inv-loop μ-loop
-loop-holds c = (omega arith, refl, rest-start (c .pre .1))
-
-add-place : tie.Need-add-place Inv-loop μ-loop
-add-place c = omega (arith, c .before .loop .inv .1, c .loop-test .taken, c .before .before .pre .0 .count)
+loop-holds c = (omega arith, rest-start (c .pre .1))
 
 flag-at-requires : tie.Need-flag-at-requires Inv-loop μ-loop
 flag-at-requires c κs = omega (arith, c .loop-test .taken, c .before .before .pre .0 .count)
@@ -38,8 +35,8 @@ returns c =
     let found = c .before in
     let turn = found .before .before .before in
     let inv = turn .before .loop .inv in
-    rest-here (inv .2) (omega (arith, inv .1)) (turn .loop-test .taken) (found .bound-of .ensures)
-    (c .if2 .taken)
+    rest-here (inv .1) (omega (arith, turn .before .before .pre .0 .count, turn .loop-test .taken))
+    (turn .loop-test .taken) (found .bound-of .ensures) (c .if2 .taken)
 
 loop-again : tie.Need-loop-again Inv-loop μ-loop
 loop-again c =
@@ -47,20 +44,19 @@ loop-again c =
     let s = turn .before .before in
     let inv = turn .before .loop .inv in (
       omega (arith, turn .loop-test .taken),
-      omega (arith, inv .1),
       ⊎-elim
-          (λ w. rw (w .3) (rest-found (inv .2) (omega (arith, s .pre .0 .count, turn .loop-test .taken))
+          (λ w. rw (w .3) (rest-found (inv .1) (omega (arith, s .pre .0 .count, turn .loop-test .taken))
           (w .1 .ensures) (w .2 .left)))
-          (λ w. rw (w .1) (rest-skip (inv .2) (s .pre .1) (turn .loop-test .taken)
+          (λ w. rw (w .1) (rest-skip (inv .1) (s .pre .1) (turn .loop-test .taken)
           (λ z. w .0 .left (c .before .flag-at .ensures ∙ z))))
           (c .if1 .came),
     )
 
 returns-2 : tie.Need-returns-2 Inv-loop μ-loop
-returns-2 c = rest-end (c .before .loop .inv .2) (c .before .loop .inv .0) (c .loop-test .left)
+returns-2 c = rest-end (c .before .loop .inv .1) (c .before .loop .inv .0) (c .loop-test .left)
 
 pub search-rest-spec : {M : Type 1} → statement M
 search-rest-spec =
     tie.close
-    (tie.spec Inv-loop μ-loop loop-holds add-place flag-at-requires bound-of-requires returns
-    (λ c. search needs) (λ c. search needs) (λ c. search needs) (λ c. search needs) loop-again returns-2)
+    (tie.spec Inv-loop μ-loop loop-holds flag-at-requires bound-of-requires (λ c. search needs)
+    (λ c. search needs) returns (λ c. search needs) (λ c. search needs) loop-again returns-2)

@@ -7,11 +7,11 @@ use Rattle.told.proofs.told_of.Tie as tie
 
 returns : tie.Need-returns
 returns c =
-    given-told _ (c .before .before .before .answer .given .1) (c .before .as-number .ensures)
+    given-told _ _ (c .before .before .before .answer .given .1) (c .before .as-number .ensures)
     (c .fields-of .ensures)
 
 returns-2 : tie.Need-returns-2
-returns-2 c = refused-told _ (c .before .before .answer2 .given .1) (c .fields-of2 .ensures)
+returns-2 c = refused-told _ _ (c .before .before .answer2 .given .1) (c .fields-of2 .ensures)
 
 pub told-of-spec : {M : Type 1} → statement M
 told-of-spec =

@@ -1,0 +1,2 @@
+pub mod WordOut
+pub mod FrontPage
