@@ -2,9 +2,11 @@
  * with a pattern; what the call overwrote is counted, less what a thread that does nothing overwrites.
  *
  * The plan is read from the standard input. `stack` prints the bytes of a test, of forcing, of forcing with
- * an answer of its own, of that under edition 2, and of the fewest cores; `stack write` those of the two calls
- * that write a plan: the plan's tasks, and the plan as changed by forcing. Link it with -z now: otherwise the
- * first call of memcpy, which the system looks up then, counts with some kilobytes. */
+ * an answer of its own, of a test and of forcing under edition 2, and of the fewest cores; `stack tasks`
+ * those of forcing, of that under edition 2 and of the fewest cores on the plan's tasks, with five numbers to
+ * a task; `stack write` those of the two calls that write a plan: the plan's tasks, and the plan as changed.
+ * Link it with -z now: otherwise the first call of memcpy, which the system looks up then, counts with some
+ * kilobytes. */
 #include <pthread.h>
 #include <stdio.h>
 #include <stdlib.h>
@@ -17,8 +19,8 @@ enum { SIZE = 1 << 18, PATTERN = 0xA5, HEAD_LINE = 11, TASK_LINE = 31 };
 static uint8_t text[4096];
 static size_t length;
 static uint32_t records[3 * ESKIHRUM_TASKS];
-static uint32_t tasks[4 * ESKIHRUM_TASKS];
-static size_t tasks_length;
+static uint32_t tasks[4 * ESKIHRUM_TASKS], levels[5 * ESKIHRUM_TASKS];
+static size_t tasks_length, levels_length;
 static uint8_t buffer[ESKIHRUM_PLAN_BYTES];
 static uint32_t answer[sizeof(eskihrum_answer) / sizeof(uint32_t)];
 
@@ -45,6 +47,30 @@ static void *force_answer(void *job) {
 static void *force_second(void *job) {
     eskihrum_flat_force_plan_2(text, length, records, sizeof records / sizeof *records, answer,
                                sizeof answer / sizeof *answer);
+    return job;
+}
+
+static void *test_second(void *job) {
+    eskihrum_flat_test_plan_2(text, length, records, sizeof records / sizeof *records, answer,
+                              sizeof answer / sizeof *answer);
+    return job;
+}
+
+static void *force_list(void *job) {
+    eskihrum_flat_force_levels(1, ESKIHRUM_FP, levels, levels_length, records,
+                               sizeof records / sizeof *records, answer, sizeof answer / sizeof *answer);
+    return job;
+}
+
+static void *force_list_second(void *job) {
+    eskihrum_flat_force_levels_2(1, ESKIHRUM_FP, levels, levels_length, records,
+                                 sizeof records / sizeof *records, answer, sizeof answer / sizeof *answer);
+    return job;
+}
+
+static void *fewest_list(void *job) {
+    eskihrum_flat_fewest_levels(1, ESKIHRUM_FP, levels, levels_length, records,
+                                sizeof records / sizeof *records, answer, sizeof answer / sizeof *answer);
     return job;
 }
 
@@ -82,7 +108,7 @@ static size_t used(void *(*run)(void *)) {
     return SIZE - untouched;
 }
 
-/* The numbers of the task lines, four to a task; what is no line is left out. */
+/* The numbers of the task lines, four to a task, and five with its place; what is no line is left out. */
 static void take_tasks(void) {
     for (size_t at = HEAD_LINE; at + TASK_LINE <= length && tasks_length < sizeof tasks / sizeof *tasks;
          at += TASK_LINE) {
@@ -92,6 +118,9 @@ static void take_tasks(void) {
         tasks[tasks_length++] = period;
         tasks[tasks_length++] = cost;
         tasks[tasks_length++] = deadline;
+        memcpy(levels + levels_length, tasks + tasks_length - 4, 4 * sizeof *tasks);
+        levels[levels_length + 4] = (uint32_t)(tasks_length / 4);
+        levels_length += 5;
     }
 }
 
@@ -101,10 +130,13 @@ int main(int count, char **words) {
     size_t empty = used(nothing);
     if (count == 2 && strcmp(words[1], "write") == 0) {
         printf("tasks %zu changed %zu\n", used(write_tasks) - empty, used(write_changed) - empty);
+    } else if (count == 2 && strcmp(words[1], "tasks") == 0) {
+        printf("force %zu edition 2 %zu fewest %zu\n", used(force_list) - empty,
+               used(force_list_second) - empty, used(fewest_list) - empty);
     } else {
-        printf("test %zu force %zu answer %zu edition 2 %zu fewest %zu\n", used(test) - empty,
-               used(force) - empty, used(force_answer) - empty, used(force_second) - empty,
-               used(fewest) - empty);
+        printf("test %zu force %zu answer %zu edition 2 %zu and %zu fewest %zu\n", used(test) - empty,
+               used(force) - empty, used(force_answer) - empty, used(test_second) - empty,
+               used(force_second) - empty, used(fewest) - empty);
     }
     return 0;
 }

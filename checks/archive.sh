@@ -43,7 +43,15 @@ told 0 "01010102FB
 told 2 "refused 16 place 0" target/writer 72
 told 0 "$(target/writer)" target/writer 73
 
+example levels
+told 0 "one level: bounds 6 and 6
+as a plan: refused 18 place 0
+two levels: bounds 2 and 6
+level 33: refused 17 place 2" target/levels
+
 # with the second program as its own tests have built it
 export CARGO_TARGET_DIR="$PWD/second/target"
 (cd rust && cargo test --offline --quiet -- --nocapture)
 (cd rust/header && cargo test --offline --quiet -- --nocapture)
+# the benchmark is not run here, but it has to follow
+(cd bench && cargo check --offline --quiet)

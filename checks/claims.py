@@ -4,8 +4,9 @@
 A theorem or a function is named by a link, [`name`](../path#L12): the file declares that name, publicly, in
 that line. A row that names one has its sentence. Every specs file that the front pages reach is listed,
 every theorem of the front pages and every word of their own specs stands in the paper as the source has it,
-every public function has a row with its promise and one with two wrong answers, and every edit and file that
-a paper names is there. Prints what is wrong, a line each, and exits with 1. With the word `lines` it first
+every public function has a row with its promise and one with the edits that show wrong answers, two or more,
+or one where a `requires` says that only the crates above call it; and every edit and file that a paper names
+is there. Prints what is wrong, a line each, and exits with 1. With the word `lines` it first
 sets the line numbers right.
 """
 import pathlib
@@ -14,7 +15,7 @@ import sys
 
 ROOT = pathlib.Path(__file__).resolve().parent.parent
 PAPER = ROOT / "docs" / "CLAIMS.md"
-FRONT_CRATES = ("claims", "claims_writing", "claims_rounds", "claims_cores", "claims_word")
+FRONT_CRATES = ("claims", "claims_writing", "claims_rounds", "claims_cores", "claims_word", "claims_levels")
 FRONTS = [ROOT / "crates" / crate / "proofs" / "FrontPage.antt" for crate in FRONT_CRATES]
 FOLDERS = "docs|crates|checks|examples|corpus|second|rust|bench|include|tools"
 LINK = re.compile(r"\[`([^`]+)`\]\(\.\./([\w/.+-]+)#L(\d+)\)")
@@ -141,7 +142,8 @@ def statements():
 
 
 def functions():
-    """Every public function of a library has its promise and its two wrong answers."""
+    """Every public function of a library has its promise, and edits that show two wrong answers, or one where
+    it has a `requires`: no caller from outside reaches it."""
     promised, wrong = set(), {}
     for _, header, cells in rows():
         row = dict(zip(header, cells))
@@ -157,11 +159,12 @@ def functions():
         if not (base / "proofs").is_dir() or (base / "stdout").is_file():
             continue
         text = source.read_text(encoding="utf-8")
-        for name in re.findall(r"^pub (?:extern \"C\" )?fn (\w+)[(<]", text, re.M):
+        for name, contract in re.findall(r"^pub (?:extern \"C\" )?fn (\w+)[(<](.*?)^\{", text, re.M | re.S):
             if f"{crate}::{name}" not in promised:
                 yield f"docs/CLAIMS.md: no row has the promise of {crate}::{name}"
-            if wrong.get(f"{crate}::{name}", 0) < 2:
-                yield f"docs/CLAIMS.md: {crate}::{name} has not two wrong answers"
+            due = 1 if "requires {" in contract else 2
+            if wrong.get(f"{crate}::{name}", 0) < due:
+                yield f"docs/CLAIMS.md: {crate}::{name} has fewer than {due} edits that show a wrong answer"
 
 
 def edits():

@@ -364,13 +364,44 @@ made 2 'policy EDF\ncores 17\ntask 1 1 1 P\n' 'refused 5 place 0' \
 made 2 "$head" 'refused 7 place 0' 'plan: the head: the number of tasks is not 1 to 32 [plan explain 7]'
 made 2 "${head}task 99999999999999999999 1 1 P\n" 'refused 9 place 1' \
     'plan: task 1: the period T is not 1 to 1,000,000 quanta [plan explain 9]'
+made 2 "${head}task 12 4 12 P\ntask 12 4 12 N 33\n" 'refused 17 place 2' \
+    'plan: task 2: the level is not 1 to 32 [plan explain 17]'
+told_17='plan: task 1: the level is not 1 to 32 [plan explain 17]'
+made 2 "${head}task 12 4 12 P 0\ntask 0 4 12 P 1\n" 'refused 17 place 1' "$told_17"
+made 2 'policy EDF\ncores 1\ntask 6 2 6 P 99999999999999999999\n' 'refused 17 place 1' "$told_17"
+made 2 "${head}task 12 13 12 P 0\n" 'refused 11 place 1' \
+    'plan: task 1: the execution time C is not 1 to D [plan explain 11]'
+told_18='plan: the table: the levels are not 1, 2 and so on in table order, and plan lines carry no others'
+for levels in '1 1' '2 1' '1 3' '2 3'; do
+    for words in FP EDF; do
+        made 2 "policy $words\ncores 1\ntask 6 2 6 P ${levels% *}\ntask 6 2 6 N ${levels#* }\n" \
+            'refused 18 place 0' "$told_18 [plan explain 18]"
+    done
+done
+for levels in ' 1/ 2' ' 01/' '/ 002'; do
+    printf '%btask 12 4 12 P%s\ntask 24 9 18 P%s\n' "$head" "${levels%/*}" "${levels#*/}" >"$room/typed"
+    gives 0 ./plan make "$room/typed"
+    holds $b
+done
+# The numbers of a table whose levels are not its places, shown and typed.
+printf '1 1 3\n1 6 2 6\n0 6 2 6 1\n1 9 9 9\n' >"$room/numbers"
+gives 0 awk -f tools/shown.awk "$room/numbers"
+wrote 'policy FP
+cores 1
+# T C D flag level
+task 6 2 6 P 1
+task 6 2 6 N 1
+task 9 9 9 P 3'
+sh_gives 0 'awk -f tools/shown.awk "$room/numbers" | awk -f tools/typed.awk'
+holds "$room/numbers"
 while IFS='|' read -r table why; do
     made 3 "$table" '' "plan: $room/typed: $why"
 done <<'EOF'
 policy FP\ncores 1\ntask 12 4 x P\n|line 3: 'x' is no number for D
 policy FP\ncores 1\ntask 12 4 12 Q\n|line 3: 'Q' is no flag: P or N
-policy FP\ncores 1\ntask 12 4 12\n|line 3: after '12' a word is missing: task T C D FLAG
-policy FP\ncores 1\ntask 12 4 12 P 1\n|line 3: '1' is a word too many: task T C D FLAG
+policy FP\ncores 1\ntask 12 4 12\n|line 3: after '12' a word is missing: task T C D FLAG [LEVEL]
+policy FP\ncores 1\ntask 12 4 12 P 1 2\n|line 3: '2' is a word too many: task T C D FLAG [LEVEL]
+policy FP\ncores 1\ntask 12 4 12 P x\n|line 3: 'x' is no number for the level
 policy FP\ncores 1\ncores 2\n|line 3: 'cores' was given before
 policy RM\n|line 1: 'RM' is no policy: EDF or FP
 plan FP\n|line 1: 'plan' begins no line: policy, cores, task or #
@@ -403,17 +434,20 @@ explained 12 34 'line 34 (after task 32, the last)'
 explained 13 0 'the list that a program lends'
 explained 14 32 'task 32'
 explained 16 0 'the buffer that a program lends'
-for number in '' No. --- 1e1 +9 -9 0 00 09 9.0 ' 9' 17 100 14x '9
+explained 17 32 'task 32 of a list that a program lends'
+explained 18 0 'the list that a program lends'
+for number in '' No. --- 1e1 +9 -9 0 00 09 9.0 ' 9' 19 100 14x '9
 9'; do
     gives 3 ./plan explain -- "$number"
     wrote ''
-    said "plan: explain takes the number of a refusal, 1 to 16, and not '$number' [plan --help]"
+    said "plan: explain takes the number of a refusal, 1 to 18, and not '$number' [plan --help]"
 done
 gives 3 ./plan explain ---
 gives 3 ./plan --explain
 said 'plan: explain takes NUMBER [PLACE], and 0 words were given [plan --help]'
 gives 3 ./plan explain 1 2 3
-for pair in '1 0' '1 34' '5 2' '9 0' '9 34' '12 2' '12 35' '13 1' '14 0' '14 33' '14 03' '14 x' '14 100'; do
+for pair in '1 0' '1 34' '5 2' '9 0' '9 34' '12 2' '12 35' '13 1' '14 0' '14 33' '14 03' '14 x' '14 100' \
+    '17 0' '17 33' '18 1'; do
     # shellcheck disable=SC2086 # two words
     gives 3 ./plan explain $pair
     said "plan: refusal ${pair% *} never has the place '${pair#* }' [plan --help]"

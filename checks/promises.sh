@@ -21,7 +21,7 @@ cc_with() { "${CC:-cc}" -O1 -Wall -Wextra -Wconversion -pedantic -Werror -Iinclu
 wrapper() {
     try "the wrapper does not build" rust --crate-type rlib --crate-name eskihrum -l static=eskihrum \
         -o "$room/libeskihrum.rlib" rust/src/lib.rs
-    for tests in promises editions fewest_promises; do
+    for tests in promises editions fewest_promises levels_promises; do
         try "its tests do not build" rust --test --extern eskihrum="$room/libeskihrum.rlib" \
             -o "$room/$tests" "rust/tests/$tests.rs"
         try "the wrapper breaks a promise" "$room/$tests" --test-threads=1
@@ -34,7 +34,7 @@ header() {
     try "ar" ar rcs "$room/libheader.a" "$room/header.o"
     try "the header's tests do not build" rust --crate-type rlib --crate-name eskihrum_header \
         -l static=header -l static=eskihrum -o "$room/libeskihrum_header.rlib" rust/header/src/lib.rs
-    for tests in promises fewest_promises; do
+    for tests in promises fewest_promises levels_promises; do
         try "the header's tests do not build" rust --test -o "$room/header" \
             --extern eskihrum_header="$room/libeskihrum_header.rlib" "rust/header/tests/$tests.rs"
         try "the header breaks a promise" "$room/header" --test-threads=1

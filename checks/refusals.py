@@ -1,9 +1,9 @@
 #!/usr/bin/env python3
 """refusals.py: every refusal has a row in docs/REFUSALS.md, an example that gets it, an edit that shows it.
 
-The example is a plan whose listing beside it starts with the number, or, for 13, 15 and 16, which no listing
-beside a plan has, a program that calls the planner. The edit is a must-fail edit of a crate. The last cell
-says what a place is, in a word that `plan` knows. `./plan explain N` prints the row.
+The example is a plan whose listing beside it starts with the number, or, for 13 and 15 to 18, which no
+listing beside a plan has, a program that calls the planner. The edit is a must-fail edit of a crate. The last
+cell says what a place is, in a word that `plan` knows. `./plan explain N` prints the row.
 """
 import pathlib
 import re
@@ -11,8 +11,8 @@ import subprocess
 import sys
 
 ROOT = pathlib.Path(__file__).resolve().parent.parent
-NUMBERS = range(1, 17)
-PLACES = {"line", "head", "task line", "end", "none", "task", "buffer"}
+NUMBERS = range(1, 19)
+PLACES = {"line", "head", "task line", "end", "none", "task", "buffer", "list task"}
 
 
 def rows():

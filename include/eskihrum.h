@@ -37,10 +37,13 @@ extern "C" {
 /* The project's version, and what this header knows of the archive. An archive serves it exactly if
  * eskihrum_abi() is at least ESKIHRUM_ABI: calls and numbers are added, and never change their meaning. */
 #define ESKIHRUM_VERSION "0.2.0"
-#define ESKIHRUM_ABI 5
+#define ESKIHRUM_ABI 6
 
 /* A table has at most so many tasks; room for so many records is always enough. */
 #define ESKIHRUM_TASKS 32
+
+/* The lowest level; 1 is the highest. */
+#define ESKIHRUM_LEVELS 32
 
 /* Room for so many bytes from the start place on is always enough: no plan is longer. */
 #define ESKIHRUM_PLAN_BYTES 1003
@@ -48,13 +51,25 @@ extern "C" {
 enum { ESKIHRUM_EDF = 0, ESKIHRUM_FP = 1 };
 enum { ESKIHRUM_NON_PREEMPTIVE = 0, ESKIHRUM_PREEMPTIVE = 1 };
 
-/* A task as it is given: any numbers, and a wrong one gets its refusal. Times are in quanta. */
+/* A task as it is given: any numbers, and a wrong one gets its refusal. Times are in quanta. Its place in the
+ * list, from 1, is its level. */
 typedef struct eskihrum_task {
     uint32_t flag;     /* ESKIHRUM_PREEMPTIVE or ESKIHRUM_NON_PREEMPTIVE */
     uint32_t period;   /* T, 1 to 1,000,000 */
     uint32_t cost;     /* C, 1 to D */
     uint32_t deadline; /* D, 1 to T */
 } eskihrum_task;
+
+/* A task with a level of its own, for the functions whose names end in _levels. Under FP another task counts
+ * as higher if its level is smaller or equal, and as lower if it is greater: two tasks may share one. EDF
+ * ignores levels, and still refuses one that is none. */
+typedef struct eskihrum_level_task {
+    uint32_t flag;     /* as in an eskihrum_task, these four */
+    uint32_t period;   /* T */
+    uint32_t cost;     /* C */
+    uint32_t deadline; /* D */
+    uint32_t level;    /* 1 to ESKIHRUM_LEVELS */
+} eskihrum_level_task;
 
 /* What the planner says of a task. */
 typedef struct eskihrum_record {
@@ -89,6 +104,12 @@ ESKIHRUM_AT(eskihrum_task, period, 1);
 ESKIHRUM_AT(eskihrum_task, cost, 2);
 ESKIHRUM_AT(eskihrum_task, deadline, 3);
 ESKIHRUM_HOLDS(sizeof(eskihrum_task) == 4 * sizeof(uint32_t));
+ESKIHRUM_AT(eskihrum_level_task, flag, 0);
+ESKIHRUM_AT(eskihrum_level_task, period, 1);
+ESKIHRUM_AT(eskihrum_level_task, cost, 2);
+ESKIHRUM_AT(eskihrum_level_task, deadline, 3);
+ESKIHRUM_AT(eskihrum_level_task, level, 4);
+ESKIHRUM_HOLDS(sizeof(eskihrum_level_task) == 5 * sizeof(uint32_t));
 ESKIHRUM_AT(eskihrum_record, flag, 0);
 ESKIHRUM_AT(eskihrum_record, forced, 1);
 ESKIHRUM_AT(eskihrum_record, bound, 2);
@@ -157,6 +178,28 @@ uint32_t eskihrum_flat_write_tasks(uint32_t cores, uint32_t policy, const uint32
 uint32_t eskihrum_flat_write_changed(const uint8_t *text, size_t text_len, uint8_t *buffer, size_t buffer_len,
                                      size_t start, uint32_t *answer, size_t answer_len);
 
+/* What the calls on a table of numbers do, with five numbers to a task: flag, T, C, D, level. Where the last
+ * task has fewer than five, those that are missing count as 0, and so it is refused. A plan has no levels:
+ * writing is refused with 18, after all others, where they are not 1, 2 and so on in table order. */
+uint32_t eskihrum_flat_test_levels(uint32_t cores, uint32_t policy, const uint32_t *tasks, size_t tasks_len,
+                                   uint32_t *records, size_t records_len, uint32_t *answer,
+                                   size_t answer_len);
+uint32_t eskihrum_flat_force_levels(uint32_t cores, uint32_t policy, const uint32_t *tasks, size_t tasks_len,
+                                    uint32_t *records, size_t records_len, uint32_t *answer,
+                                    size_t answer_len);
+uint32_t eskihrum_flat_test_levels_2(uint32_t cores, uint32_t policy, const uint32_t *tasks, size_t tasks_len,
+                                     uint32_t *records, size_t records_len, uint32_t *answer,
+                                     size_t answer_len);
+uint32_t eskihrum_flat_force_levels_2(uint32_t cores, uint32_t policy, const uint32_t *tasks,
+                                      size_t tasks_len, uint32_t *records, size_t records_len,
+                                      uint32_t *answer, size_t answer_len);
+uint32_t eskihrum_flat_fewest_levels(uint32_t cores, uint32_t policy, const uint32_t *tasks, size_t tasks_len,
+                                     uint32_t *records, size_t records_len, uint32_t *answer,
+                                     size_t answer_len);
+uint32_t eskihrum_flat_write_levels(uint32_t cores, uint32_t policy, const uint32_t *tasks, size_t tasks_len,
+                                    uint8_t *buffer, size_t buffer_len, size_t start, uint32_t *answer,
+                                    size_t answer_len);
+
 /* The two older calls: job is ESKIHRUM_TEST, or ESKIHRUM_FORCE and any other number. Their answer is one
  * number, whose parts the macros give. They stay as they are. */
 enum { ESKIHRUM_TEST = 0, ESKIHRUM_FORCE = 1 };
@@ -197,13 +240,27 @@ static inline eskihrum_answer eskihrum_ask_plan(eskihrum_on_plan *job, const voi
     return answer;
 }
 
+static inline eskihrum_answer eskihrum_ask_numbers(eskihrum_on_tasks *job, uint32_t cores, uint32_t policy,
+                                                   const uint32_t *tasks, size_t tasks_len,
+                                                   eskihrum_record *records, size_t room) {
+    eskihrum_answer answer = eskihrum_no_answer();
+    job(cores, policy, tasks, tasks_len,
+        (uint32_t *)records, eskihrum_numbers(room, ESKIHRUM_TASKS, 3), (uint32_t *)&answer, 16);
+    return answer;
+}
+
 static inline eskihrum_answer eskihrum_ask_tasks(eskihrum_on_tasks *job, uint32_t cores, uint32_t policy,
                                                  const eskihrum_task *tasks, size_t n,
                                                  eskihrum_record *records, size_t room) {
-    eskihrum_answer answer = eskihrum_no_answer();
-    job(cores, policy, (const uint32_t *)tasks, eskihrum_numbers(n, ESKIHRUM_TASKS + 1, 4),
-        (uint32_t *)records, eskihrum_numbers(room, ESKIHRUM_TASKS, 3), (uint32_t *)&answer, 16);
-    return answer;
+    return eskihrum_ask_numbers(job, cores, policy, (const uint32_t *)tasks,
+                                eskihrum_numbers(n, ESKIHRUM_TASKS + 1, 4), records, room);
+}
+
+static inline eskihrum_answer eskihrum_ask_levels(eskihrum_on_tasks *job, uint32_t cores, uint32_t policy,
+                                                  const eskihrum_level_task *tasks, size_t n,
+                                                  eskihrum_record *records, size_t room) {
+    return eskihrum_ask_numbers(job, cores, policy, (const uint32_t *)tasks,
+                                eskihrum_numbers(n, ESKIHRUM_TASKS + 1, 5), records, room);
 }
 
 /* The test of a plan: the `bytes` bytes at text. room is how many records there is room for at records. The
@@ -305,6 +362,51 @@ static inline eskihrum_answer eskihrum_write_changed(const void *text, size_t te
     return answer;
 }
 
+/* The jobs on a list of tasks, each with a level of its own: test, forcing, both under the second edition,
+ * the fewest cores. Refused as without levels, and with 17 where a task's level is not 1 to 32, after 11 of
+ * that task and under both policies. */
+static inline eskihrum_answer eskihrum_test_levels(uint32_t cores, uint32_t policy,
+                                                   const eskihrum_level_task *tasks, size_t n,
+                                                   eskihrum_record *records, size_t room) {
+    return eskihrum_ask_levels(eskihrum_flat_test_levels, cores, policy, tasks, n, records, room);
+}
+
+static inline eskihrum_answer eskihrum_force_levels(uint32_t cores, uint32_t policy,
+                                                    const eskihrum_level_task *tasks, size_t n,
+                                                    eskihrum_record *records, size_t room) {
+    return eskihrum_ask_levels(eskihrum_flat_force_levels, cores, policy, tasks, n, records, room);
+}
+
+static inline eskihrum_answer eskihrum_test_levels_2(uint32_t cores, uint32_t policy,
+                                                     const eskihrum_level_task *tasks, size_t n,
+                                                     eskihrum_record *records, size_t room) {
+    return eskihrum_ask_levels(eskihrum_flat_test_levels_2, cores, policy, tasks, n, records, room);
+}
+
+static inline eskihrum_answer eskihrum_force_levels_2(uint32_t cores, uint32_t policy,
+                                                      const eskihrum_level_task *tasks, size_t n,
+                                                      eskihrum_record *records, size_t room) {
+    return eskihrum_ask_levels(eskihrum_flat_force_levels_2, cores, policy, tasks, n, records, room);
+}
+
+static inline eskihrum_answer eskihrum_fewest_levels(uint32_t cores, uint32_t policy,
+                                                     const eskihrum_level_task *tasks, size_t n,
+                                                     eskihrum_record *records, size_t room) {
+    return eskihrum_ask_levels(eskihrum_flat_fewest_levels, cores, policy, tasks, n, records, room);
+}
+
+/* Writes the plan of n tasks as eskihrum_write_tasks does. The lines of a plan carry no level: after all
+ * other refusals comes 18, with place 0, where the levels are not 1, 2 and so on in table order. */
+static inline eskihrum_answer eskihrum_write_levels(uint32_t cores, uint32_t policy,
+                                                    const eskihrum_level_task *tasks, size_t n, void *buffer,
+                                                    size_t bytes, size_t start) {
+    eskihrum_answer answer = eskihrum_no_answer();
+    eskihrum_flat_write_levels(cores, policy, (const uint32_t *)tasks,
+                               eskihrum_numbers(n, ESKIHRUM_TASKS + 1, 5), (uint8_t *)buffer, bytes, start,
+                               (uint32_t *)&answer, 16);
+    return answer;
+}
+
 /* What a refusal's number means, in the words of docs/REFUSALS.md, and what to do about it. The tables are
  * written by `python3 checks/border.py --write`. */
 static inline const char *eskihrum_text(uint32_t number) {
@@ -332,6 +434,8 @@ static inline const char *eskihrum_text(uint32_t number) {
                     "has no bound. Another choice of non-preemptive tasks may pass.";
     case 16: return "The buffer has too little room for the plan from the start place on, or the start "
                     "place lies past its end.";
+    case 17: return "The level is not 1 to 32.";
+    case 18: return "The levels are not 1, 2 and so on in table order, and plan lines carry no others.";
     /* texts: end */
     default: return "There is no such refusal.";
     }
@@ -364,6 +468,10 @@ static inline const char *eskihrum_advice(uint32_t number) {
                     "The place is the lowest-numbered task without a bound.";
     case 16: return "Lend a longer buffer, or start earlier: a plan has 11 bytes and 31 for each task, "
                     "1,003 at most.";
+    case 17: return "Give a level from 1, the highest, to 32; two tasks may share one. Where the place in "
+                    "the table is the level, leave it out, or use the calls without levels.";
+    case 18: return "Put the tasks in the order of their levels, with one task to a level, and leave the "
+                    "levels out. A table whose tasks share a level is tested and forced from C and Rust.";
     /* advice: end */
     default: return "Compare the number with docs/REFUSALS.md.";
     }

@@ -48,7 +48,8 @@ list_place_in_words() {
     case $(cell "$1" 7) in
         head | none) if within "$2" 0 0; then printf 'the list that a program lends'; fi ;;
         buffer) if within "$2" 0 0; then printf 'the buffer that a program lends'; fi ;;
-        'task line') if within "$2" 1 32; then printf 'task %s of a list that a program lends' "$2"; fi ;;
+        'task line' | 'list task')
+            if within "$2" 1 32; then printf 'task %s of a list that a program lends' "$2"; fi ;;
     esac
 }
 
@@ -64,12 +65,13 @@ hint() {
     say "$prefix$(place_in_words "$2" "$4"): $wrong [plan explain $2]"
 }
 
-# list_hint: the same for a table that was typed; the place is the task's number, and 0 for the head.
+# list_hint: the same for a table that was typed; the place is the task's number, and 0 for the head or, where
+# a place is nothing, the whole table.
 list_hint() {
     # shellcheck disable=SC2086 # the words of "refused NUMBER place PLACE"
     set -- $listing
     wrong=$(cell "$2" 2 | awk '{ sub(/\. .*|\.$/, ""); print tolower(substr($0, 1, 1)) substr($0, 2) }')
-    where='the head'
+    case $(cell "$2" 7) in none) where='the table' ;; *) where='the head' ;; esac
     [ "$4" -eq 0 ] || where="task $4"
     say "$where: $wrong [plan explain $2]"
 }

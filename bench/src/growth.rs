@@ -47,7 +47,8 @@ fn drawn(random: &mut Random, policy: u32, kind: Kind) -> Draw {
         false => periods.iter().map(|&period| random.small(period.div_ceil(2), period)).collect(),
     };
     let shares = shares(random, kind.n, 1_000_000 * u64::from(cores));
-    Draw { cores, policy, flags: vec![1; kind.n], periods, deadlines, shares }
+    let levels = (1..).take(kind.n).collect();
+    Draw { cores, policy, flags: vec![1; kind.n], periods, deadlines, shares, levels }
 }
 
 /// Evaluations a search of the best form, and of the textbook iteration, over tables near the edge.
@@ -70,9 +71,9 @@ fn measured(policy: u32, kind: Kind) -> (f64, f64) {
 /// What slow plans have in common: short tasks need all cores all the time, and light long ones are beside
 /// them.
 fn full_load(longest: u32) -> Table {
-    let mut tasks = vec![Task { flag: 0, period: 2, cost: 1, deadline: 1 }; 16];
-    tasks.resize(32, Task { flag: 1, period: longest, cost: 1, deadline: longest });
-    Table { cores: 8, policy: EDF, tasks }
+    let mut tasks = vec![Task::of_four(0, 2, 1, 1); 16];
+    tasks.resize(32, Task::of_four(1, longest, 1, longest));
+    Table::in_places(8, EDF, &tasks)
 }
 
 /// One table of figures, and its panel of the picture.

@@ -22,14 +22,14 @@ fn with_full(random: &mut Random, policy: u32, n: usize) -> [Table; 2] {
             for _ in 0..full {
                 let any = spread_period(random, LONGEST_PERIOD);
                 let period = random.pick(&[1, 1, 2, 1_000, LONGEST_PERIOD, any]);
-                let task = Task { flag: random.small(0, 1), period, cost: period, deadline: period };
+                let task = Task::of_four(random.small(0, 1), period, period, period);
                 let place = random.between(0, inside.tasks.len() as u64 / 2) as usize;
                 for table in [&mut inside, &mut outside] {
                     table.cores += 1;
                     table.tasks.insert(place, task);
                 }
             }
-            return [inside, outside];
+            return [inside, outside].map(|table| Table::in_places(table.cores, policy, &table.tasks));
         }
     }
 }
@@ -49,19 +49,19 @@ fn unbroken(random: &mut Random, n: usize) -> [Table; 2] {
 /// A task with C = T on each of 16 cores, and light long tasks beside them: no length is enough, which a
 /// search that takes the growth of a share to end with its period sees only after going through all of them.
 fn all_full(policy: u32) -> Table {
-    let full = Task { flag: 1, period: 1, cost: 1, deadline: 1 };
-    let long = Task { flag: 1, period: LONGEST_PERIOD, cost: 1, deadline: LONGEST_PERIOD };
+    let full = Task::of_four(1, 1, 1, 1);
+    let long = Task::of_four(1, LONGEST_PERIOD, 1, LONGEST_PERIOD);
     let mut tasks = vec![full; 16];
     tasks.resize(32, long);
-    Table { cores: 16, policy, tasks }
+    Table::in_places(16, policy, &tasks)
 }
 
 /// Short tasks that need all 11 cores all the time, and as many light long tasks as leave the sum less than a
 /// quantum of all cores above the line: each jump ends with the next period of 2.
 fn ramp() -> Table {
-    let mut tasks = vec![Task { flag: 0, period: 2, cost: 1, deadline: 1 }; 22];
-    tasks.resize(32, Task { flag: 1, period: LONGEST_PERIOD, cost: 1, deadline: LONGEST_PERIOD });
-    Table { cores: 11, policy: EDF, tasks }
+    let mut tasks = vec![Task::of_four(0, 2, 1, 1); 22];
+    tasks.resize(32, Task::of_four(1, LONGEST_PERIOD, 1, LONGEST_PERIOD));
+    Table::in_places(11, EDF, &tasks)
 }
 
 /// Writes the workloads.

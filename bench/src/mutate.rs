@@ -16,7 +16,7 @@ fn any_task(random: &mut Random, longest: u32) -> Task {
         1 => deadline,
         _ => random.small(1, deadline),
     };
-    Task { flag: random.small(0, 1), period, cost, deadline }
+    Task::of_four(random.small(0, 1), period, cost, deadline)
 }
 
 /// A table of a few kinds of tasks, each several times: what is slow has that form. Half of these tables
@@ -31,7 +31,7 @@ pub fn first(random: &mut Random, policy: u32, cores: u32, n: usize, longest: u3
     if random.once_in(2) {
         tasks.sort_by_key(|task| task.period);
     }
-    Table { cores, policy, tasks }
+    Table::in_places(cores, policy, &tasks)
 }
 
 /// Short tasks that need all cores all the time, and light long ones beside them: their searches go through
@@ -42,9 +42,9 @@ fn full_load(random: &mut Random, cores: u32, n: usize, longest: u32) -> Vec<Tas
     let flag = random.small(0, 1);
     let mut tasks = Vec::new();
     for _ in 0..(cores * period).div_ceil(cost) {
-        tasks.push(Task { flag, period, cost, deadline: random.small(cost, period) });
+        tasks.push(Task::of_four(flag, period, cost, random.small(cost, period)));
     }
-    tasks.resize(n, Task { flag: random.small(0, 1), period: longest, cost: 1, deadline: longest });
+    tasks.resize(n, Task::of_four(random.small(0, 1), longest, 1, longest));
     tasks
 }
 

@@ -17,8 +17,10 @@ pub struct Plan {
 }
 
 impl Plan {
+    /// The plan's lines, and four numbers to a task, have the places as levels.
     pub fn of(table: &Table) -> Plan {
-        Plan { text: write(table), numbers: numbers(table), table: table.clone() }
+        let table = Table::in_places(table.cores, table.policy, &table.tasks);
+        Plan { text: write(&table), numbers: numbers(&table), table }
     }
 }
 

@@ -9,9 +9,9 @@ use second::plan::{Table, Task, EDF};
 
 /// The plan with the most rounds known of its size: 400,000 of them, two tasks.
 fn longest() -> Plan {
-    let task = |period, cost, deadline| Task { flag: 1, period, cost, deadline };
+    let task = |period, cost, deadline| Task::of_four(1, period, cost, deadline);
     let tasks = vec![task(1_000_000, 399_998, 999_998), task(799_997, 199_999, 600_000)];
-    Plan::of(&Table { cores: 1, policy: EDF, tasks })
+    Plan::of(&Table::in_places(1, EDF, &tasks))
 }
 
 /// The archive's test under edition 2: how many rounds it had.

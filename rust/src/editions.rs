@@ -52,7 +52,7 @@ pub fn test_tasks_in<'a>(
     tasks: &[Task],
     room: &'a mut [Record],
 ) -> Result<Rounded<Tested<'a>>, Refusal> {
-    let (run, list) = ([flat::test_tasks, flat::test_tasks_2][edition as usize], flat::numbers(tasks));
+    let (run, list) = ([flat::test_levels, flat::test_levels_2][edition as usize], flat::numbers(tasks));
     let answer = filled(|answer| run(cores, policy as u32, list, flat::numbers_mut(room), answer));
     rounded(&answer, tested(answer, refusal::of_tasks, room))
 }
@@ -65,7 +65,7 @@ pub fn force_tasks_in<'a>(
     tasks: &[Task],
     room: &'a mut [Record],
 ) -> Result<Rounded<Forced<'a>>, Refusal> {
-    let (run, list) = ([flat::force_tasks, flat::force_tasks_2][edition as usize], flat::numbers(tasks));
+    let (run, list) = ([flat::force_levels, flat::force_levels_2][edition as usize], flat::numbers(tasks));
     let answer = filled(|answer| run(cores, policy as u32, list, flat::numbers_mut(room), answer));
     rounded(&answer, forced(answer, refusal::of_tasks, room))
 }

@@ -1,4 +1,6 @@
-//! The archive's functions on flat numbers, as C calls them: four numbers to a task, three to a record.
+//! The archive's functions on flat numbers, as C calls them: five numbers to a task where the name ends in
+//! `levels`, and four, without the level, in the others, which take a task's place for its level; three to a
+//! record.
 //!
 //! All that is unsafe in this package is here: the calls, and the view of tasks and records as the numbers
 //! that they are made of. Only a caller that has such numbers already, or that asks for a policy that is not
@@ -32,7 +34,7 @@ pub const END_LOW: usize = 9;
 pub const END_HIGH: usize = 10;
 
 /// What this wrapper knows of the archive: calls and numbers of an answer are only ever added.
-pub const ABI: u32 = 5;
+pub const ABI: u32 = 6;
 
 // checks/border.py compares these declarations with the archive's source.
 extern "C" {
@@ -147,6 +149,67 @@ extern "C" {
         answer: *mut u32,
         answer_len: usize,
     ) -> u32;
+    fn eskihrum_flat_test_levels(
+        cores: u32,
+        policy: u32,
+        tasks: *const u32,
+        tasks_len: usize,
+        records: *mut u32,
+        records_len: usize,
+        answer: *mut u32,
+        answer_len: usize,
+    ) -> u32;
+    fn eskihrum_flat_force_levels(
+        cores: u32,
+        policy: u32,
+        tasks: *const u32,
+        tasks_len: usize,
+        records: *mut u32,
+        records_len: usize,
+        answer: *mut u32,
+        answer_len: usize,
+    ) -> u32;
+    fn eskihrum_flat_test_levels_2(
+        cores: u32,
+        policy: u32,
+        tasks: *const u32,
+        tasks_len: usize,
+        records: *mut u32,
+        records_len: usize,
+        answer: *mut u32,
+        answer_len: usize,
+    ) -> u32;
+    fn eskihrum_flat_force_levels_2(
+        cores: u32,
+        policy: u32,
+        tasks: *const u32,
+        tasks_len: usize,
+        records: *mut u32,
+        records_len: usize,
+        answer: *mut u32,
+        answer_len: usize,
+    ) -> u32;
+    fn eskihrum_flat_fewest_levels(
+        cores: u32,
+        policy: u32,
+        tasks: *const u32,
+        tasks_len: usize,
+        records: *mut u32,
+        records_len: usize,
+        answer: *mut u32,
+        answer_len: usize,
+    ) -> u32;
+    fn eskihrum_flat_write_levels(
+        cores: u32,
+        policy: u32,
+        tasks: *const u32,
+        tasks_len: usize,
+        buffer: *mut u8,
+        buffer_len: usize,
+        start: usize,
+        answer: *mut u32,
+        answer_len: usize,
+    ) -> u32;
     fn eskihrum_plan(
         job: u32,
         text: *const u8,
@@ -189,6 +252,23 @@ fn on_tasks(call: OnTasks, head: [u32; 2], tasks: &[u32], records: &mut [u32], a
     let ([cores, policy], to, room) = (head, records.as_mut_ptr(), records.len());
     // SAFETY: as above.
     unsafe { call(cores, policy, tasks.as_ptr(), tasks.len(), to, room, answer.as_mut_ptr(), answer.len()) }
+}
+
+/// A call that writes a flat table.
+type OnBuffer =
+    unsafe extern "C" fn(u32, u32, *const u32, usize, *mut u8, usize, usize, *mut u32, usize) -> u32;
+
+fn on_buffer(
+    call: OnBuffer,
+    [cores, policy]: [u32; 2],
+    tasks: &[u32],
+    buffer: &mut [u8],
+    start: usize,
+    answer: &mut [u32],
+) -> u32 {
+    let (list, n, to, room) = (tasks.as_ptr(), tasks.len(), buffer.as_mut_ptr(), buffer.len());
+    // SAFETY: as above.
+    unsafe { call(cores, policy, list, n, to, room, start, answer.as_mut_ptr(), answer.len()) }
 }
 
 /// The test of a plan text; 1 for a yes.
@@ -241,6 +321,37 @@ pub fn fewest_tasks(cores: u32, policy: u32, tasks: &[u32], records: &mut [u32],
     on_tasks(eskihrum_flat_fewest_tasks, [cores, policy], tasks, records, answer)
 }
 
+/// The test of a flat table with levels; 1 for a yes.
+pub fn test_levels(cores: u32, policy: u32, tasks: &[u32], records: &mut [u32], answer: &mut [u32]) -> u32 {
+    on_tasks(eskihrum_flat_test_levels, [cores, policy], tasks, records, answer)
+}
+
+/// Forcing of a flat table with levels; 1 where it accepts.
+pub fn force_levels(cores: u32, policy: u32, tasks: &[u32], records: &mut [u32], answer: &mut [u32]) -> u32 {
+    on_tasks(eskihrum_flat_force_levels, [cores, policy], tasks, records, answer)
+}
+
+/// The test of a flat table with levels under the second edition; 1 for a yes.
+pub fn test_levels_2(cores: u32, policy: u32, tasks: &[u32], records: &mut [u32], answer: &mut [u32]) -> u32 {
+    on_tasks(eskihrum_flat_test_levels_2, [cores, policy], tasks, records, answer)
+}
+
+/// Forcing of a flat table with levels under the second edition; 1 where it accepts.
+pub fn force_levels_2(
+    cores: u32,
+    policy: u32,
+    tasks: &[u32],
+    records: &mut [u32],
+    answer: &mut [u32],
+) -> u32 {
+    on_tasks(eskihrum_flat_force_levels_2, [cores, policy], tasks, records, answer)
+}
+
+/// The fewest cores for a flat table with levels, as [`fewest_tasks`].
+pub fn fewest_levels(cores: u32, policy: u32, tasks: &[u32], records: &mut [u32], answer: &mut [u32]) -> u32 {
+    on_tasks(eskihrum_flat_fewest_levels, [cores, policy], tasks, records, answer)
+}
+
 /// A flat table as a plan, from the place `start` of the buffer on; 1 where it is written.
 pub fn write_tasks(
     cores: u32,
@@ -250,20 +361,21 @@ pub fn write_tasks(
     start: usize,
     answer: &mut [u32],
 ) -> u32 {
-    // SAFETY: as above.
-    unsafe {
-        eskihrum_flat_write_tasks(
-            cores,
-            policy,
-            tasks.as_ptr(),
-            tasks.len(),
-            buffer.as_mut_ptr(),
-            buffer.len(),
-            start,
-            answer.as_mut_ptr(),
-            answer.len(),
-        )
-    }
+    let head = [cores, policy];
+    on_buffer(eskihrum_flat_write_tasks, head, tasks, buffer, start, answer)
+}
+
+/// A flat table with levels as a plan, as [`write_tasks`]; they have to be 1, 2 and so on.
+pub fn write_levels(
+    cores: u32,
+    policy: u32,
+    tasks: &[u32],
+    buffer: &mut [u8],
+    start: usize,
+    answer: &mut [u32],
+) -> u32 {
+    let head = [cores, policy];
+    on_buffer(eskihrum_flat_write_levels, head, tasks, buffer, start, answer)
 }
 
 /// The plan of a text as changed, from the place `start` of the buffer on; 1 where it is written.
@@ -297,14 +409,14 @@ pub fn tasks(job: u32, cores: u32, policy: u32, tasks: &[u32], records: &mut [u3
     }
 }
 
-const _: () = assert!(size_of::<Task>() == 4 * size_of::<u32>() && align_of::<Task>() == align_of::<u32>());
+const _: () = assert!(size_of::<Task>() == 5 * size_of::<u32>() && align_of::<Task>() == align_of::<u32>());
 const _: () =
     assert!(size_of::<Record>() == 3 * size_of::<u32>() && align_of::<Record>() == align_of::<u32>());
 
-/// Tasks as the numbers that they are made of: flag, T, C, D.
+/// Tasks as the numbers that they are made of: flag, T, C, D, level.
 pub fn numbers(tasks: &[Task]) -> &[u32] {
-    // SAFETY: a Task is four u32 in order and nothing else, and every u32 is a number that it may hold.
-    unsafe { core::slice::from_raw_parts(tasks.as_ptr().cast(), tasks.len() * 4) }
+    // SAFETY: a Task is five u32 in order and nothing else, and every u32 is a number that it may hold.
+    unsafe { core::slice::from_raw_parts(tasks.as_ptr().cast(), tasks.len() * 5) }
 }
 
 /// Records as the numbers that they are made of: flag, forced mark, bound.

@@ -12,7 +12,7 @@
 //! use eskihrum::{fewest_tasks, force_tasks, test_plan, test_tasks, write_changed, write_tasks};
 //! use eskihrum::{Policy, Record, Task, PLAN_BYTES};
 //!
-//! let tasks = [Task::preemptive(12, 4, 12), Task::preemptive(24, 9, 18)];
+//! let tasks = Task::in_places([Task::preemptive(12, 4, 12), Task::preemptive(24, 9, 18)]);
 //! let mut room = [Record::default(); 2];
 //!
 //! assert!(!test_tasks(1, Policy::Fp, &tasks, &mut room)?.yes);
@@ -67,7 +67,7 @@ pub const PLAN_BYTES: usize = 1003;
 pub enum Policy {
     /// Earliest deadline first.
     Edf = 0,
-    /// Fixed priority: an earlier place in the list is a higher priority.
+    /// Fixed priority: a task counts as higher than another if its level is smaller or equal.
     Fp = 1,
 }
 
@@ -81,6 +81,9 @@ impl fmt::Display for Policy {
 }
 
 /// A task as it is given, in quanta: any numbers, and a wrong one gets its refusal.
+///
+/// Its level counts under [`Policy::Fp`]. Where the order of the list is that of the priorities,
+/// [`Task::in_places`] or [`Task::set_places`] gives each task its place for a level.
 #[derive(Clone, Copy, Debug, PartialEq, Eq)]
 #[repr(C)]
 pub struct Task {
@@ -92,17 +95,42 @@ pub struct Task {
     pub cost: u32,
     /// D, from 1 to T.
     pub deadline: u32,
+    /// From 1, the highest, to 32; tasks may share one. Any other is refused with 17, under both policies.
+    pub level: u32,
 }
 
 impl Task {
-    /// A task that may be interrupted, by T, C and D.
+    /// A task that may be interrupted, by T, C and D. It has no level yet: 0, which is refused.
     pub const fn preemptive(period: u32, cost: u32, deadline: u32) -> Task {
-        Task { flag: 1, period, cost, deadline }
+        Task { flag: 1, period, cost, deadline, level: 0 }
     }
 
-    /// A task that runs to its end once it has started, by T, C and D.
+    /// A task that runs to its end once it has started, by T, C and D. It has no level yet: 0, which is
+    /// refused.
     pub const fn non_preemptive(period: u32, cost: u32, deadline: u32) -> Task {
-        Task { flag: 0, period, cost, deadline }
+        Task { flag: 0, period, cost, deadline, level: 0 }
+    }
+
+    /// The same task on this level.
+    pub const fn at(self, level: u32) -> Task {
+        Task { level, ..self }
+    }
+
+    /// The same tasks with their places as levels: 1 for the first, and so on.
+    pub const fn in_places<const N: usize>(mut tasks: [Task; N]) -> [Task; N] {
+        let mut i = 0;
+        while i < N {
+            tasks[i].level = i as u32 + 1;
+            i += 1;
+        }
+        tasks
+    }
+
+    /// Gives each task of a list its place as its level: 1 for the first, and so on.
+    pub fn set_places(tasks: &mut [Task]) {
+        for (level, task) in (1..).zip(tasks) {
+            task.level = level;
+        }
     }
 }
 
@@ -177,7 +205,7 @@ pub fn test_tasks<'a>(
 ) -> Result<Tested<'a>, Refusal> {
     let mut answer = [0; flat::FIELDS];
     let list = flat::numbers(tasks);
-    flat::test_tasks(cores, policy as u32, list, flat::numbers_mut(room), &mut answer);
+    flat::test_levels(cores, policy as u32, list, flat::numbers_mut(room), &mut answer);
     tested(answer, refusal::of_tasks, room)
 }
 
@@ -190,7 +218,7 @@ pub fn force_tasks<'a>(
 ) -> Result<Forced<'a>, Refusal> {
     let mut answer = [0; flat::FIELDS];
     let list = flat::numbers(tasks);
-    flat::force_tasks(cores, policy as u32, list, flat::numbers_mut(room), &mut answer);
+    flat::force_levels(cores, policy as u32, list, flat::numbers_mut(room), &mut answer);
     forced(answer, refusal::of_tasks, room)
 }
 
@@ -213,7 +241,7 @@ pub fn fewest_tasks<'a>(
 ) -> Result<Fewest<'a>, Refusal> {
     let mut answer = [0; flat::FIELDS];
     let list = flat::numbers(tasks);
-    flat::fewest_tasks(cores, policy as u32, list, flat::numbers_mut(room), &mut answer);
+    flat::fewest_levels(cores, policy as u32, list, flat::numbers_mut(room), &mut answer);
     let forced = forced(answer, refusal::of_tasks, room)?;
     Ok(Fewest { cores: answer[flat::CORES], forced })
 }
@@ -222,7 +250,8 @@ pub fn fewest_tasks<'a>(
 /// last byte.
 ///
 /// The bytes before the start and those after the end stay. 16 is the refusal where there is too little room
-/// from the start place, or where it lies past the buffer's end; a refusal writes nothing.
+/// from the start place, or where it lies past the buffer's end; 18, after all others, is the one where the
+/// levels are not 1, 2 and so on, since plan lines carry none. A refusal writes nothing.
 pub fn write_tasks(
     cores: u32,
     policy: Policy,
@@ -231,7 +260,7 @@ pub fn write_tasks(
     start: usize,
 ) -> Result<usize, Refusal> {
     let mut answer = [0; flat::FIELDS];
-    flat::write_tasks(cores, policy as u32, flat::numbers(tasks), buffer, start, &mut answer);
+    flat::write_levels(cores, policy as u32, flat::numbers(tasks), buffer, start, &mut answer);
     ended(answer, refusal::of_tasks)
 }
 

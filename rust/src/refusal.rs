@@ -19,7 +19,7 @@ pub enum Place {
 /// A numbered refusal of documents 01 and 02. The caller's list or buffer is as it was.
 #[derive(Clone, Copy, Debug, PartialEq, Eq)]
 pub struct Refusal {
-    /// Its number, 1 to 16; 14 under the first edition only, 15 under the second.
+    /// Its number, 1 to 18; 14 under the first edition only, 15 under the second.
     pub number: u32,
     /// Its place.
     pub place: Place,

@@ -34,6 +34,8 @@ pub(crate) const fn text(number: u32) -> &'static str {
             "The buffer has too little room for the plan from the start place on, or the start place lies \
              past its end."
         }
+        17 => "The level is not 1 to 32.",
+        18 => "The levels are not 1, 2 and so on in table order, and plan lines carry no others.",
         // texts: end
         _ => NONE,
     }
@@ -74,6 +76,14 @@ pub(crate) const fn advice(number: u32) -> &'static str {
         16 => {
             "Lend a longer buffer, or start earlier: a plan has 11 bytes and 31 for each task, 1,003 at \
              most."
+        }
+        17 => {
+            "Give a level from 1, the highest, to 32; two tasks may share one. Where the place in the table \
+             is the level, leave it out, or use the calls without levels."
+        }
+        18 => {
+            "Put the tasks in the order of their levels, with one task to a level, and leave the levels \
+             out. A table whose tasks share a level is tested and forced from C and Rust."
         }
         // advice: end
         _ => NONE,

@@ -3,8 +3,9 @@
 //! beside a border.
 
 use eskihrum::{flat, Forced, Place, Policy, Record, Refusal, Task, Tested};
-use second::compare::{everything, flags_word, short, unflat, Compared, Planner, TEST};
+use second::compare::{everything, short, unflat, Compared, Planner, Told, TEST};
 use second::compare_writing::{compared, Said, Writer};
+use second::word::word_of_flags;
 
 /// The number of calls that agree is printed; a table on which the two differ is kept in
 /// target/difference.txt.
@@ -30,15 +31,19 @@ fn word(number: u32, place: u32, yes: bool, forced: u32, passes: u32) -> u64 {
 
 // ---------------------------------------------------------------- the flat calls
 
-const FLAT: Planner = Planner { text: flat_text, list: flat_list };
+const FLAT: Planner = Planner { text: flat_text, list: flat_list, tells_word: true };
 
-/// An answer with a guard behind it. What is kept for later has to be 0, whatever stood there.
-fn lent(run: impl FnOnce(&mut [u32]) -> u32) -> (u64, u32, u32) {
+/// The place of the flags word in an answer.
+const WORD: usize = 8;
+
+/// An answer with a guard behind it: the number, the word, and the number of records. What is kept for later
+/// has to be 0, whatever stood there.
+fn lent(run: impl FnOnce(&mut [u32]) -> u32) -> (Told, u32) {
     const GUARD: u32 = 0xC3C3_C3C3;
     let mut answer = [GUARD; flat::FIELDS + 2];
     let yes = run(&mut answer);
-    let flags = std::mem::replace(&mut answer[flat::WORD], 0);
-    assert_eq!(answer[6..], [0, 0, 0, 0, 0, 0, 0, 0, 0, 0, GUARD, GUARD], "what no field is for");
+    assert_eq!(answer[6..WORD], [0, 0], "what is not for this call");
+    assert_eq!(answer[WORD + 1..], [0, 0, 0, 0, 0, 0, 0, GUARD, GUARD], "what no field is for");
     assert_eq!(yes, answer[flat::YES], "the result is the answer's yes");
     let told = word(
         answer[flat::NUMBER],
@@ -47,25 +52,23 @@ fn lent(run: impl FnOnce(&mut [u32]) -> u32) -> (u64, u32, u32) {
         answer[flat::FORCED],
         answer[flat::PASSES],
     );
-    (told, answer[flat::RECORDS], flags)
+    ((told, answer[WORD]), answer[flat::RECORDS])
 }
 
-/// As many records as the answer says were written, and no other; the second program knows how many. Their
-/// flags are in the word.
-fn counted((told, written, flags): (u64, u32, u32), before: &[u32], after: &[u32]) -> u64 {
+/// As many records as the answer says were written, and no other; the second program knows how many.
+fn counted((told, written): (Told, u32), before: &[u32], after: &[u32]) -> Told {
     let changed = before.iter().zip(after).rposition(|(old, new)| old != new).map_or(0, |last| last / 3 + 1);
     assert_eq!(written as usize, changed, "the number of records");
-    assert_eq!(flags, flags_word(&after[..3 * changed]), "the flags in one word");
     told
 }
 
-fn flat_text(job: u32, text: &[u8], records: &mut [u32]) -> u64 {
+fn flat_text(job: u32, text: &[u8], records: &mut [u32]) -> Told {
     let before = records.to_vec();
     let run = if job == TEST { flat::test_plan } else { flat::force_plan };
     counted(lent(|answer| run(text, records, answer)), &before, records)
 }
 
-fn flat_list(job: u32, cores: u32, policy: u32, tasks: &[u32], records: &mut [u32]) -> u64 {
+fn flat_list(job: u32, cores: u32, policy: u32, tasks: &[u32], records: &mut [u32]) -> Told {
     let before = records.to_vec();
     let run = if job == TEST { flat::test_tasks } else { flat::force_tasks };
     counted(lent(|answer| run(cores, policy, tasks, records, answer)), &before, records)
@@ -73,21 +76,22 @@ fn flat_list(job: u32, cores: u32, policy: u32, tasks: &[u32], records: &mut [u3
 
 // ---------------------------------------------------------------- the safe functions
 
-const SAFE: Planner = Planner { text: safe_text, list: safe_list };
+/// A test by the safe functions tells no flags word; forcing's is compared where it is told.
+const SAFE: Planner = Planner { text: safe_text, list: safe_list, tells_word: false };
 
 /// Lends the numbers as records, with guards behind them that no call may touch.
-fn as_records(numbers: &mut [u32], run: impl FnOnce(&mut [Record]) -> u64) -> u64 {
+fn as_records(numbers: &mut [u32], run: impl FnOnce(&mut [Record]) -> u64) -> Told {
     const GUARD: Record = Record { flag: 0xC3C3_C3C3, forced: 0x3C3C_3C3C, bound: 0x5555_5555 };
     let room = numbers.len() / 3;
     let record = |three: &[u32]| Record { flag: three[0], forced: three[1], bound: three[2] };
     let mut records: Vec<Record> = numbers.chunks(3).map(record).collect();
     records.resize(room + 40, GUARD);
-    let word = run(&mut records[..room]);
+    let told = run(&mut records[..room]);
     assert!(records[room..].iter().all(|record| *record == GUARD), "written past the caller's list");
     for (three, record) in numbers.chunks_mut(3).zip(&records) {
         three.copy_from_slice(&[record.flag, record.forced, record.bound]);
     }
-    word
+    (told, 0)
 }
 
 fn refused(refusal: Refusal, by_line: bool) -> u64 {
@@ -119,15 +123,15 @@ fn forced(answer: Result<Forced, Refusal>, by_line: bool, n: usize) -> u64 {
     match answer {
         Ok(forced) => {
             assert_eq!(forced.records.len(), n, "a record for each task");
-            let flags: Vec<u32> = forced.records.iter().flat_map(|one| [one.flag, 0, 0]).collect();
-            assert_eq!(forced.word, flags_word(&flags), "the flags in one word");
+            let flags: Vec<u32> = forced.records.iter().map(|one| one.flag).collect();
+            assert_eq!(forced.word, word_of_flags(&flags), "the flags in one word");
             word(0, 0, true, forced.count, forced.passes)
         }
         Err(refusal) => refused(refusal, by_line),
     }
 }
 
-fn safe_text(job: u32, text: &[u8], records: &mut [u32]) -> u64 {
+fn safe_text(job: u32, text: &[u8], records: &mut [u32]) -> Told {
     let n = second::plan::read(text).map_or(0, |table| table.tasks.len());
     as_records(records, |room| match job {
         TEST => tested(eskihrum::test_plan(text, room), true, n),
@@ -136,14 +140,15 @@ fn safe_text(job: u32, text: &[u8], records: &mut [u32]) -> u64 {
 }
 
 /// A policy that is not there cannot be asked for: those calls go to the flat functions.
-fn safe_list(job: u32, cores: u32, policy: u32, tasks: &[u32], records: &mut [u32]) -> u64 {
+fn safe_list(job: u32, cores: u32, policy: u32, tasks: &[u32], records: &mut [u32]) -> Told {
     let policy = match policy {
         0 => Policy::Edf,
         1 => Policy::Fp,
         _ => return flat_list(job, cores, policy, tasks, records),
     };
-    let task = |four: &[u32]| Task { flag: four[0], period: four[1], cost: four[2], deadline: four[3] };
-    let tasks: Vec<Task> = tasks.chunks(4).map(task).collect();
+    let task = |four: &[u32]| Task { flag: four[0], ..Task::preemptive(four[1], four[2], four[3]) };
+    let mut tasks: Vec<Task> = tasks.chunks(4).map(task).collect();
+    Task::set_places(&mut tasks);
     as_records(records, |room| match job {
         TEST => tested(eskihrum::test_tasks(cores, policy, &tasks, room), false, tasks.len()),
         _ => forced(eskihrum::force_tasks(cores, policy, &tasks, room), false, tasks.len()),
@@ -195,11 +200,10 @@ fn safe_write_tasks(cores: u32, policy: u32, tasks: &[u32], buffer: &mut [u8], s
     };
     let task = |one: second::plan::Task| Task {
         flag: one.flag,
-        period: one.period,
-        cost: one.cost,
-        deadline: one.deadline,
+        ..Task::preemptive(one.period, one.cost, one.deadline)
     };
-    let tasks: Vec<Task> = unflat(tasks).into_iter().map(task).collect();
+    let mut tasks: Vec<Task> = unflat(tasks).into_iter().map(task).collect();
+    Task::set_places(&mut tasks);
     eskihrum::write_tasks(cores, policy, &tasks, buffer, start).map_err(parts)
 }
 
@@ -209,7 +213,12 @@ fn safe_write_changed(text: &[u8], buffer: &mut [u8], start: usize) -> Said {
 
 // ---------------------------------------------------------------- the runs
 
-const OLDER: Planner = Planner { text: flat::plan, list: flat::tasks };
+/// The older calls have no flags word, and never will.
+const OLDER: Planner = Planner {
+    text: |job, text, records| (flat::plan(job, text, records), 0),
+    list: |job, cores, policy, tasks, records| (flat::tasks(job, cores, policy, tasks, records), 0),
+    tells_word: false,
+};
 
 /// A short run of each way in, with fixed seeds, in the gate.
 #[test]

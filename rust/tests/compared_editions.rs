@@ -3,8 +3,9 @@
 //! refuses; every value, and every record of the caller's list.
 
 use eskihrum::{flat, Edition, Forced, Place, Policy, Record, Refusal, Rounded, Task, Tested};
-use second::compare::{flags_word, Compared, TEST};
+use second::compare::{Compared, TEST};
 use second::edition2_compare::{everything, short, Planner, Said};
+use second::word::word_of_flags;
 
 /// The number of calls that agree is printed; a table on which the two differ is kept in
 /// target/difference.txt.
@@ -23,6 +24,9 @@ fn told(way: &str, seed: u64, compared: Compared) {
 
 struct Flat;
 
+/// The place of the flags word in an answer.
+const WORD: usize = 8;
+
 /// An answer with a guard behind it. What is kept for later has to be 0, whatever stood there; as many
 /// records are written as the answer says.
 fn lent(records: &mut [u32], run: impl FnOnce(&mut [u32], &mut [u32]) -> u32) -> Said {
@@ -30,13 +34,12 @@ fn lent(records: &mut [u32], run: impl FnOnce(&mut [u32], &mut [u32]) -> u32) ->
     let before = records.to_vec();
     let mut answer = [GUARD; flat::FIELDS + 2];
     let yes = run(records, &mut answer);
-    let flags = std::mem::replace(&mut answer[flat::WORD], 0);
-    assert_eq!(answer[7..], [0, 0, 0, 0, 0, 0, 0, 0, 0, GUARD, GUARD], "what no field is for");
+    assert_eq!(answer[flat::CORES], 0, "what is not for this call");
+    assert_eq!(answer[WORD + 1..], [0, 0, 0, 0, 0, 0, 0, GUARD, GUARD], "what no field is for");
     assert_eq!(yes, answer[flat::YES], "the result is the answer's yes");
     let changed = before.iter().zip(records.iter()).rposition(|(old, new)| old != new);
     let written = changed.map_or(0, |last| last / 3 + 1);
     assert_eq!(answer[flat::RECORDS] as usize, written, "the number of records");
-    assert_eq!(flags, flags_word(&records[..3 * written]), "the flags in one word");
     Said {
         number: answer[flat::NUMBER],
         place: answer[flat::PLACE],
@@ -44,6 +47,7 @@ fn lent(records: &mut [u32], run: impl FnOnce(&mut [u32], &mut [u32]) -> u32) ->
         forced: answer[flat::FORCED],
         passes: answer[flat::PASSES],
         rounds: answer[flat::ROUNDS],
+        word: answer[WORD],
     }
 }
 
@@ -101,7 +105,9 @@ fn tested(answer: Result<Rounded<Tested>, Refusal>) -> Said {
 
 fn forced(answer: Result<Rounded<Forced>, Refusal>) -> Said {
     match answer {
-        Ok(Rounded { told: Forced { count, passes, .. }, rounds }) => {
+        Ok(Rounded { told: Forced { count, passes, word, records }, rounds }) => {
+            let flags: Vec<u32> = records.iter().map(|one| one.flag).collect();
+            assert_eq!(word, word_of_flags(&flags), "the flags in one word");
             Said { yes: true, forced: count, passes, rounds, ..Said::default() }
         }
         Err(refusal) => refused(refusal),
@@ -117,6 +123,10 @@ fn edition_of(edition: u32) -> Edition {
 }
 
 impl Planner for Safe {
+    fn tells_word(&self) -> bool {
+        false
+    }
+
     fn text(&self, job: u32, edition: u32, text: &[u8], records: &mut [u32]) -> Said {
         let edition = edition_of(edition);
         as_records(records, |room| match job {
@@ -132,8 +142,9 @@ impl Planner for Safe {
             1 => Policy::Fp,
             _ => return Flat.list(job, edition, head, tasks, records),
         };
-        let task = |four: &[u32]| Task { flag: four[0], period: four[1], cost: four[2], deadline: four[3] };
-        let (edition, tasks) = (edition_of(edition), tasks.chunks(4).map(task).collect::<Vec<Task>>());
+        let task = |four: &[u32]| Task { flag: four[0], ..Task::preemptive(four[1], four[2], four[3]) };
+        let (edition, mut tasks) = (edition_of(edition), tasks.chunks(4).map(task).collect::<Vec<Task>>());
+        Task::set_places(&mut tasks);
         as_records(records, |room| match job {
             TEST => tested(eskihrum::test_tasks_in(edition, head[0], policy, &tasks, room)),
             _ => forced(eskihrum::force_tasks_in(edition, head[0], policy, &tasks, room)),

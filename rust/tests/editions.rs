@@ -30,7 +30,9 @@ type Tests<'a> = (u32, &'a [u32]);
 type Forces<'a> = Result<(u32, u32, &'a [(u32, u32, u32)]), (u32, u32)>;
 
 fn case(cores: u32, policy: Policy, tasks: &[Task], tests: Tests, forces: Forces) {
-    let mut room = [KEPT; 5];
+    let mut tasks = tasks.to_vec();
+    Task::set_places(&mut tasks);
+    let (tasks, mut room) = (&tasks[..], [KEPT; 5]);
     let records: Vec<Record> = tasks.iter().zip(tests.1).map(|(t, b)| record((t.flag, 0, *b))).collect();
     let yes = tests.1.iter().all(|bound| *bound > 0);
     let told = test_tasks_in(Second, cores, policy, tasks, &mut room);
@@ -107,7 +109,7 @@ fn texts_under_the_second_edition() {
 #[test]
 fn the_first_edition_has_no_rounds() {
     let mut room = [KEPT; 3];
-    let tasks = [p(12, 4, 12), p(24, 9, 18)];
+    let tasks = Task::in_places([p(12, 4, 12), p(24, 9, 18)]);
     let records = [record((0, 1, 12)), record((0, 1, 17))];
     let forced = Forced { count: 2, passes: 3, word: 3, records: &records };
     let forced = Ok(Rounded { told: forced, rounds: 0 });
@@ -123,9 +125,9 @@ fn the_first_edition_has_no_rounds() {
 #[test]
 fn a_large_round_count_arrives_whole() {
     let mut room = [KEPT; 2];
-    let tasks = [p(1_000, 402, 1_000), p(801, 199, 598)];
+    let tasks = Task::in_places([p(1_000, 402, 1_000), p(801, 199, 598)]);
     assert_eq!(test_tasks_in(Second, 1, Edf, &tasks, &mut room).map(|told| told.rounds), Ok(401));
-    let tasks = [p(1_000_000, 399_998, 999_998), p(799_997, 199_999, 600_000)];
+    let tasks = Task::in_places([p(1_000_000, 399_998, 999_998), p(799_997, 199_999, 600_000)]);
     assert_eq!(test_tasks_in(Second, 1, Edf, &tasks, &mut room).map(|told| told.rounds), Ok(400_000));
 }
 

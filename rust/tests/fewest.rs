@@ -2,7 +2,6 @@
 //! and by the safe functions.
 
 use eskihrum::{flat, Fewest, Place, Policy, Record, Refusal, Task};
-use second::compare::flags_word;
 use second::fewest_compare::{everything, short, Said, Searcher};
 
 const GUARD: u32 = 0xC3C3_C3C3;
@@ -10,6 +9,9 @@ const GUARD: u32 = 0xC3C3_C3C3;
 // ---------------------------------------------------------------- the flat calls
 
 struct Flat;
+
+/// The place of the flags word in an answer.
+const WORD: usize = 8;
 
 /// An answer with guards behind it, whatever stood in it before.
 const LENT: [u32; flat::FIELDS + 2] = [GUARD; flat::FIELDS + 2];
@@ -19,8 +21,7 @@ fn told(yes: u32, answer: &[u32], before: &[u32], after: &[u32]) -> Said {
     let changed = before.iter().zip(after).rposition(|(old, new)| old != new).map_or(0, |at| at / 3 + 1);
     assert_eq!(answer[flat::RECORDS] as usize, changed, "the number of records");
     assert_eq!((yes, yes), (answer[flat::YES], u32::from(answer[flat::NUMBER] == 0)), "the yes");
-    assert_eq!(answer[flat::WORD], flags_word(&after[..3 * changed]), "the flags in one word");
-    assert_eq!((answer[6], &answer[9..16]), (0, &[0; 7][..]), "what no field is for");
+    assert_eq!((answer[6], &answer[WORD + 1..16]), (0, &[0; 7][..]), "what no field is for");
     assert_eq!(answer[flat::FIELDS..], [GUARD; 2], "what stands behind the answer");
     Said {
         number: answer[flat::NUMBER],
@@ -28,6 +29,7 @@ fn told(yes: u32, answer: &[u32], before: &[u32], after: &[u32]) -> Said {
         cores: answer[flat::CORES],
         forced: answer[flat::FORCED],
         passes: answer[flat::PASSES],
+        word: answer[WORD],
     }
 }
 
@@ -68,14 +70,14 @@ fn said(answer: Result<Fewest, Refusal>, n: usize) -> Said {
     match answer {
         Ok(Fewest { cores, forced }) => {
             assert_eq!(forced.records.len(), n, "a record for each task");
-            Said { number: 0, place: 0, cores, forced: forced.count, passes: forced.passes }
+            Said { cores, forced: forced.count, passes: forced.passes, word: forced.word, ..Said::default() }
         }
         Err(Refusal { number, place, passes, .. }) => {
             let place = match place {
                 Place::Nowhere => 0,
                 Place::Line(place) | Place::Task(place) => place,
             };
-            Said { number, place, cores: 0, forced: 0, passes }
+            Said { number, place, passes, ..Said::default() }
         }
     }
 }
@@ -93,8 +95,9 @@ impl Searcher for Safe {
             1 => Policy::Fp,
             _ => return Flat.list([cores, policy], tasks, records),
         };
-        let task = |four: &[u32]| Task { flag: four[0], period: four[1], cost: four[2], deadline: four[3] };
-        let tasks: Vec<Task> = tasks.chunks(4).map(task).collect();
+        let task = |four: &[u32]| Task { flag: four[0], ..Task::preemptive(four[1], four[2], four[3]) };
+        let mut tasks: Vec<Task> = tasks.chunks(4).map(task).collect();
+        Task::set_places(&mut tasks);
         as_records(records, |room| said(eskihrum::fewest_tasks(cores, named, &tasks, room), tasks.len()))
     }
 }

@@ -4,7 +4,7 @@ use eskihrum::{fewest_plan, fewest_tasks, force_plan, force_tasks, Policy, Recor
 
 /// Document 01's case b, and what forcing gives on its one core.
 const B: &[u8] = b"01010102FB\x0A02010000000C000000040000000CE1\x0A0201000000180000000900000012CA\x0A";
-const TASKS: [Task; 2] = [Task::preemptive(12, 4, 12), Task::preemptive(24, 9, 18)];
+const TASKS: [Task; 2] = Task::in_places([Task::preemptive(12, 4, 12), Task::preemptive(24, 9, 18)]);
 const KEPT: Record = Record { flag: 7, forced: 8, bound: 9 };
 
 /// One core does, whatever number is given, with the records of forcing on it; a record behind them is kept.
@@ -37,7 +37,7 @@ fn two_cores_do() {
 #[test]
 fn sixteen_and_seventeen() {
     for policy in [Policy::Edf, Policy::Fp] {
-        let tasks = [Task::preemptive(1, 1, 1); 17];
+        let tasks = Task::in_places([Task::preemptive(1, 1, 1); 17]);
         let mut room = [KEPT; 17];
         let found = fewest_tasks(1, policy, &tasks[..16], &mut room).expect("16 cores do");
         assert_eq!((found.cores, found.forced.count, found.forced.passes), (16, 0, 1));

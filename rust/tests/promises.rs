@@ -11,7 +11,7 @@ const I: &[u8] = include_bytes!("../../examples/i.plan");
 const LONGEST: &[u8] = include_bytes!("../../corpus/good/most-tasks.plan");
 
 /// Cases a and b: (12,4,12,P) (24,9,18,P).
-const TASKS: [Task; 2] = [Task::preemptive(12, 4, 12), Task::preemptive(24, 9, 18)];
+const TASKS: [Task; 2] = Task::in_places([Task::preemptive(12, 4, 12), Task::preemptive(24, 9, 18)]);
 
 /// What stands in the caller's list before a call; no answer holds it.
 const KEPT: Record = Record { flag: 7, forced: 8, bound: 9 };
@@ -44,12 +44,15 @@ fn a_test_tells_its_records_and_keeps_the_rest() {
 /// Case c is a yes: 4 and 17.
 #[test]
 fn a_yes_is_a_yes() {
-    let tasks = [Task::preemptive(12, 4, 11), TASKS[1]];
+    let tasks = Task::in_places([Task::preemptive(12, 4, 11), TASKS[1]]);
     let mut room = [KEPT; 2];
     let told = test_tasks(1, Policy::Fp, &tasks, &mut room);
     assert_eq!(told, Ok(Tested { yes: true, records: &[record(1, 0, 4), record(1, 0, 17)] }));
     let told = force_tasks(1, Policy::Fp, &tasks, &mut room);
-    assert_eq!(told, Ok(Forced { count: 0, passes: 1, word: 0, records: &[record(1, 0, 4), record(1, 0, 17)] }));
+    assert_eq!(
+        told,
+        Ok(Forced { count: 0, passes: 1, word: 0, records: &[record(1, 0, 4), record(1, 0, 17)] })
+    );
 }
 
 #[test]
@@ -77,7 +80,7 @@ fn policy_and_cores_arrive() {
 
 #[test]
 fn a_given_non_preemptive_task_stays_so() {
-    let tasks = [Task::preemptive(12, 4, 11), Task::non_preemptive(24, 9, 18)];
+    let tasks = Task::in_places([Task::preemptive(12, 4, 11), Task::non_preemptive(24, 9, 18)]);
     let mut room = [KEPT; 2];
     assert_eq!(force_tasks(1, Policy::Fp, &tasks, &mut room), Err(refusal(14, Place::Task(1), 2)));
     assert_eq!(force_plan(D, &mut room), Err(refusal(14, Place::Task(1), 2)));
@@ -108,6 +111,7 @@ fn the_largest_counts_arrive_whole() {
     let mut tasks = [Task::preemptive(1_000_000, 1, 34); 32];
     tasks[0] = Task::preemptive(33, 1, 33);
     tasks[31] = Task::preemptive(1_000_000, 3, 35);
+    Task::set_places(&mut tasks);
     let bounds: Vec<u32> = std::iter::once(3).chain(5..=34).chain([35]).collect();
     let mut room = [KEPT; 32];
     let told = force_tasks(1, Policy::Fp, &tasks, &mut room).expect("it is accepted");
@@ -115,7 +119,7 @@ fn the_largest_counts_arrive_whole() {
     assert!(told.records.iter().zip(bounds).all(|(told, bound)| *told == record(0, 1, bound)));
 
     let mut room = [KEPT; 32];
-    let tasks = [Task::preemptive(1_000_000, 1, 31); 32];
+    let tasks = Task::in_places([Task::preemptive(1_000_000, 1, 31); 32]);
     assert_eq!(force_tasks(1, Policy::Fp, &tasks, &mut room), Err(refusal(14, Place::Task(32), 33)));
     assert_eq!(room, [KEPT; 32]);
 }
@@ -124,7 +128,9 @@ fn the_largest_counts_arrive_whole() {
 /// of a refusal is 0.
 #[test]
 fn the_word_arrives_in_order() {
-    let given = [Task::non_preemptive(100, 1, 50), Task::preemptive(100, 1, 60), Task::preemptive(100, 1, 70)];
+    let given =
+        [Task::non_preemptive(100, 1, 50), Task::preemptive(100, 1, 60), Task::preemptive(100, 1, 70)];
+    let given = Task::in_places(given);
     let mut room = [KEPT; 3];
     let told = force_tasks(1, Policy::Fp, &given, &mut room).expect("it is accepted");
     assert_eq!((told.count, told.word), (0, 0b001));
@@ -159,7 +165,7 @@ fn the_text_arrives_whole() {
 /// The planner sees the caller's room and nothing behind it, by each of the four ways.
 #[test]
 fn the_list_ends_where_the_caller_says() {
-    let tasks = [Task::preemptive(1_000_000, 1, 1_000_000); 32];
+    let tasks = Task::in_places([Task::preemptive(1_000_000, 1, 1_000_000); 32]);
     let full = Some(refusal(13, Place::Nowhere, 0));
     let mut list = [KEPT; 80];
     for room in [0, 1, 20, 31] {
@@ -175,7 +181,7 @@ fn the_list_ends_where_the_caller_says() {
 /// the 31 others: from l = 2 on W = 1 + min(1, l - 1) = 2, and so its bound is 1 + 62.
 #[test]
 fn the_tasks_arrive_whole() {
-    let tasks = [Task::preemptive(1_000_000, 1, 1_000_000); 33];
+    let tasks = Task::in_places([Task::preemptive(1_000_000, 1, 1_000_000); 33]);
     let mut room = [KEPT; 40];
     let told = test_tasks(1, Policy::Fp, &tasks[..32], &mut room).expect("32 tasks are a table");
     assert_eq!(told.records.len(), 32);
@@ -212,7 +218,7 @@ fn plans_are_written_in_their_place() {
 /// The longest plan is written whole, and tested as changed it says yes.
 #[test]
 fn what_is_written_is_read() {
-    let tasks = [Task::preemptive(1_000_000, 1, 1_000_000); 32];
+    let tasks = Task::in_places([Task::preemptive(1_000_000, 1, 1_000_000); 32]);
     let mut sent = [0; PLAN_BYTES];
     assert_eq!(write_tasks(16, Policy::Edf, &tasks, &mut sent, 0), Ok(PLAN_BYTES));
     let mut room = [KEPT; 32];
@@ -244,7 +250,7 @@ fn writers_refuse_as_the_others_do() {
 /// Tasks and records as numbers: every one of them, in order.
 #[test]
 fn numbers_are_the_fields_in_order() {
-    assert_eq!(flat::numbers(&TASKS), [1, 12, 4, 12, 1, 24, 9, 18]);
+    assert_eq!(flat::numbers(&TASKS), [1, 12, 4, 12, 1, 1, 24, 9, 18, 2]);
     assert_eq!(flat::numbers_mut(&mut B_FORCED.clone()), [0, 1, 12, 0, 1, 17]);
     assert!(flat::numbers(&[]).is_empty());
 }
@@ -256,7 +262,7 @@ fn a_lent_answer_is_written_as_far_as_it_goes() {
         let mut answer = [5; 20];
         let mut records = [6; 6];
         assert_eq!(flat::force_plan(B, &mut records, &mut answer[..room]), 1);
-        let told = [0, 0, 1, 2, 3, 2, 0, 0, 0, 0, 0, 0, 0, 0, 0, 0, 5, 5, 5, 5];
+        let told = [0, 0, 1, 2, 3, 2, 0, 0, 3, 0, 0, 0, 0, 0, 0, 0, 5, 5, 5, 5];
         assert_eq!(answer[..room], told[..room]);
         assert_eq!(answer[room..], [5; 20][room..]);
         assert_eq!(records, [0, 1, 12, 0, 1, 17]);
@@ -275,7 +281,7 @@ fn a_writer_tells_its_end() {
         assert_eq!(answer[room..], [5; 20][room..]);
         assert_eq!(buffer[9..82], *B_TEXT);
         let numbers = flat::numbers(&TASKS);
-        assert_eq!(flat::write_tasks(1, 2, numbers, &mut buffer, 9, &mut answer[..room]), 0);
+        assert_eq!(flat::write_levels(1, 2, numbers, &mut buffer, 9, &mut answer[..room]), 0);
         let told = [6, 0, 0, 0, 0, 0, 0, 0, 0, 0, 0, 0, 0, 0, 0, 0, 5, 5, 5, 5];
         assert_eq!(answer[..room], told[..room]);
         assert_eq!(answer[room..], [5; 20][room..]);
@@ -305,7 +311,8 @@ fn refusals_in_words() {
     assert!(refusal(14, Place::Task(1), 1).to_string().starts_with("refused 14 at task 1 after 1 pass: "));
     assert_eq!(refusal(5, Place::Nowhere, 0).advice(), "Give the number of cores of the chip.");
     assert!(refusal(16, Place::Nowhere, 0).to_string().starts_with("refused 16: The buffer has too little"));
-    assert_eq!(refusal(17, Place::Nowhere, 0).text(), "There is no such refusal.");
+    assert_eq!(refusal(17, Place::Task(2), 0).to_string(), "refused 17 at task 2: The level is not 1 to 32.");
+    assert_eq!(refusal(19, Place::Nowhere, 0).text(), "There is no such refusal.");
     assert_eq!(refusal(99, Place::Nowhere, 0).text(), "There is no such refusal.");
     assert_eq!(refusal(0, Place::Nowhere, 0).advice(), "There is no such refusal.");
     assert_eq!([Policy::Edf.to_string(), Policy::Fp.to_string()], ["EDF", "FP"]);

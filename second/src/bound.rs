@@ -42,13 +42,13 @@ fn sum_preemptive_edf(table: &Table, flags: &[u32], k: usize, l: u64) -> u64 {
     sum
 }
 
-/// Preemptive k under FP. An earlier place is a higher priority.
+/// Preemptive k under FP: i is higher than k if its level is smaller or equal, and lower if it is greater.
 fn sum_preemptive_fp(table: &Table, flags: &[u32], k: usize, l: u64) -> u64 {
     let q = l - table.tasks[k].cost as u64 + 1;
     let mut sum = 0;
     for (i, task) in others(table, k) {
-        let higher = i < k;
-        let lower_non_preemptive = i > k && flags[i] == 0;
+        let higher = task.level <= table.tasks[k].level;
+        let lower_non_preemptive = task.level > table.tasks[k].level && flags[i] == 0;
         if higher || lower_non_preemptive {
             sum += w(task, l).min(q);
         }
@@ -77,10 +77,10 @@ fn sum_non_preemptive_fp(table: &Table, flags: &[u32], k: usize, l: u64) -> u64 
     let mut sum = 0;
     let mut candidates = Vec::new();
     for (i, task) in others(table, k) {
-        if i < k {
+        if task.level <= table.tasks[k].level {
             sum += w(task, l).min(l);
         }
-        if i > k && flags[i] == 0 {
+        if task.level > table.tasks[k].level && flags[i] == 0 {
             candidates.push(w(task, l).min(task.cost as u64 - 1).min(l) as i64);
         }
     }

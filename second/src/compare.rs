@@ -2,32 +2,38 @@
 //!
 //! The other planner is reached through two functions. Both take the job (0 for the test, 1 for forcing) and
 //! the caller's list of records, three numbers each: flag, forced mark, bound. Both return
-//! number + 256 * place + 2^16 * forced + 2^24 * passes + 2^32 * (1 for a yes or an accepted forcing).
+//! number + 256 * place + 2^16 * forced + 2^24 * passes + 2^32 * (1 for a yes or an accepted forcing),
+//! and the flags word.
 
 use crate::forcing::{force, test, Record};
 use crate::hand::case_a;
-use crate::plan::{check_list, check_text, write, Refusal, Table, Task};
+use crate::plan::{check_list, check_text, in_places, write, Refusal, Table, Task};
 use crate::plan_cases;
 use crate::random::Random;
 use crate::reading_cases;
 use crate::tables::{all_small_tables, near_edge, small_table};
 use crate::texts::{damaged, off_border};
-use crate::{bound, textbook};
+use crate::{bound, textbook, word, word_tables};
 
 pub const TEST: u32 = 0;
 pub const FORCE: u32 = 1;
 
+/// The returned number, and the flags word.
+pub type Told = (u64, u32);
+
 /// Job, plan text, records.
-pub type TextCall = fn(u32, &[u8], &mut [u32]) -> u64;
+pub type TextCall = fn(u32, &[u8], &mut [u32]) -> Told;
 
 /// Job, cores, policy, tasks (flag, T, C, D each), records.
-pub type ListCall = fn(u32, u32, u32, &[u32], &mut [u32]) -> u64;
+pub type ListCall = fn(u32, u32, u32, &[u32], &mut [u32]) -> Told;
 
 /// The other planner.
 #[derive(Clone, Copy)]
 pub struct Planner {
     pub text: TextCall,
     pub list: ListCall,
+    /// Whether it tells the flags word; where it does not, that is not compared.
+    pub tells_word: bool,
 }
 
 /// How many calls agreed, or what the first difference is.
@@ -35,18 +41,18 @@ pub type Compared = Result<u64, String>;
 
 // ---------------------------------------------------------------- what is expected
 
-/// The returned number, and the numbers at the start of the caller's list that are written; none of them in
-/// a refusal.
+/// What is returned, and the numbers at the start of the caller's list that are written; none of them in a
+/// refusal.
 #[derive(Debug, PartialEq, Eq)]
 pub struct Answer {
-    pub word: u64,
+    pub told: Told,
     pub records: Vec<u32>,
 }
 
 fn refused(refusal: Refusal) -> Answer {
     let Refusal { number, place, passes } = refusal;
-    let word = number as u64 + ((place as u64) << 8) + ((passes as u64) << 24);
-    Answer { word, records: Vec::new() }
+    let told = number as u64 + ((place as u64) << 8) + ((passes as u64) << 24);
+    Answer { told: (told, 0), records: Vec::new() }
 }
 
 fn flat(records: &[Record]) -> Vec<u32> {
@@ -70,41 +76,37 @@ pub fn answer(job: u32, checked: Result<Table, Refusal>) -> Answer {
     };
     if job == TEST {
         let (yes, records) = test(&table, bound_of);
-        return Answer { word: u64::from(yes) << 32, records: flat(&records) };
+        return Answer { told: (u64::from(yes) << 32, word::due(&records)), records: flat(&records) };
     }
     match force(&table, bound_of) {
         Err(refusal) => refused(refusal),
         Ok(forced) => {
-            let word = ((forced.forced as u64) << 16) + ((forced.passes as u64) << 24) + (1 << 32);
-            Answer { word, records: flat(&forced.records) }
+            let told = ((forced.forced as u64) << 16) + ((forced.passes as u64) << 24) + (1 << 32);
+            Answer { told: (told, word::due(&forced.records)), records: flat(&forced.records) }
         }
     }
 }
 
 /// This program behind the same two functions, so that the comparison itself can be tried.
-pub const OWN: Planner = Planner { text: own_text, list: own_list };
+pub const OWN: Planner = Planner { text: own_text, list: own_list, tells_word: true };
 
-fn own_text(job: u32, text: &[u8], records: &mut [u32]) -> u64 {
+fn own_text(job: u32, text: &[u8], records: &mut [u32]) -> Told {
     deliver(answer(job, check_text(text, records.len() / 3)), records)
 }
 
-fn own_list(job: u32, cores: u32, policy: u32, tasks: &[u32], records: &mut [u32]) -> u64 {
+fn own_list(job: u32, cores: u32, policy: u32, tasks: &[u32], records: &mut [u32]) -> Told {
     deliver(answer(job, check_list(cores, policy, &unflat(tasks), records.len() / 3)), records)
 }
 
-fn deliver(answer: Answer, records: &mut [u32]) -> u64 {
+fn deliver(answer: Answer, records: &mut [u32]) -> Told {
     records[..answer.records.len()].copy_from_slice(&answer.records);
-    answer.word
+    answer.told
 }
 
+/// Four numbers to a task: the places are the levels.
 pub fn unflat(numbers: &[u32]) -> Vec<Task> {
-    let task = |four: &[u32]| Task { flag: four[0], period: four[1], cost: four[2], deadline: four[3] };
-    numbers.chunks(4).map(task).collect()
-}
-
-/// The flags of flat records in one word, as a loader keeps them: bit 0 for the first, a 1 for the flag 0.
-pub fn flags_word(records: &[u32]) -> u32 {
-    records.chunks(3).rev().fold(0, |word, three| 2 * word + u32::from(three[0] == 0))
+    let task = |four: &[u32]| Task::of_four(four[0], four[1], four[2], four[3]);
+    in_places(&numbers.chunks(4).map(task).collect::<Vec<Task>>())
 }
 
 pub fn flat_tasks(tasks: &[Task]) -> Vec<u32> {
@@ -118,14 +120,23 @@ fn untouched(room: usize) -> Vec<u32> {
     (0..3 * room as u32).map(|at| 0xA5A5_0000 + at).collect()
 }
 
-/// Calls, and compares the returned number and all of the caller's list.
-fn call(expected: Answer, room: usize, other: impl FnOnce(&mut [u32]) -> u64) -> Result<(), String> {
+/// Calls, and compares what is returned and all of the caller's list.
+fn call(
+    expected: Answer,
+    room: usize,
+    tells_word: bool,
+    other: impl FnOnce(&mut [u32]) -> Told,
+) -> Result<(), String> {
     let mut wanted = untouched(room);
     wanted[..expected.records.len()].copy_from_slice(&expected.records);
     let mut records = untouched(room);
-    let word = other(&mut records);
-    if word != expected.word {
-        return Err(format!("returned {word:#x}, expected {:#x}", expected.word));
+    let (told, word) = other(&mut records);
+    let (due, due_word) = expected.told;
+    if told != due {
+        return Err(format!("returned {told:#x}, expected {due:#x}"));
+    }
+    if tells_word && word != due_word {
+        return Err(format!("told the word {word:08X}, expected {due_word:08X}"));
     }
     if records != wanted {
         return Err(format!("left the list as {records:?}, expected {wanted:?}"));
@@ -137,16 +148,17 @@ fn call(expected: Answer, room: usize, other: impl FnOnce(&mut [u32]) -> u64) ->
 pub fn text_call(planner: &Planner, job: u32, text: &[u8], room: usize) -> Result<(), String> {
     let expected = answer(job, check_text(text, room));
     let shown = || format!("job {job}, room {room}, text {:?}", String::from_utf8_lossy(text));
-    call(expected, room, |records| (planner.text)(job, text, records))
+    call(expected, room, planner.tells_word, |records| (planner.text)(job, text, records))
         .map_err(|difference| format!("{}: {difference}", shown()))
 }
 
 /// One list, one job. The numbers need not be legal.
 pub fn list_call(planner: &Planner, job: u32, table: &Table, room: usize) -> Result<(), String> {
     let Table { cores, policy, tasks } = table;
-    let expected = answer(job, check_list(*cores, *policy, tasks, room));
     let numbers = flat_tasks(tasks);
-    call(expected, room, |records| (planner.list)(job, *cores, *policy, &numbers, records))
+    let expected = answer(job, check_list(*cores, *policy, &unflat(&numbers), room));
+    let run = |records: &mut [u32]| (planner.list)(job, *cores, *policy, &numbers, records);
+    call(expected, room, planner.tells_word, run)
         .map_err(|difference| format!("job {job}, room {room}, {table:?}: {difference}"))
 }
 
@@ -229,6 +241,11 @@ pub fn lists(planner: &Planner, seed: u64, count: u64) -> Compared {
     Ok(2 * count)
 }
 
+/// The tables made for the flags word.
+pub fn words(planner: &Planner) -> Compared {
+    over_tables(planner, word_tables::tables().iter().cloned())
+}
+
 /// The texts of the two batches.
 pub fn batches(planner: &Planner) -> Compared {
     let mut all: Vec<Vec<u8>> = reading_cases::cases().into_iter().map(|case| case.text).collect();
@@ -249,6 +266,7 @@ fn amount(planner: &Planner, seed: u64, step: usize, edge: usize, others: usize)
     calls += texts(planner, seed, others as u64)?;
     calls += lists(planner, seed, others as u64)?;
     calls += batches(planner)?;
+    calls += words(planner)?;
     Ok(calls)
 }
 

@@ -38,7 +38,7 @@ fn told(refusal: Refusal) -> (u32, u32, u32) {
 const AROUND: usize = 40;
 
 /// Both writers on a buffer of so many bytes, each with the same bytes in and around it.
-fn call(
+pub fn call(
     room: usize,
     own: impl FnOnce(&mut [u8]) -> Said,
     other: impl FnOnce(&mut [u8]) -> Said,

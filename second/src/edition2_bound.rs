@@ -46,6 +46,11 @@ impl Round<'_> {
         self.flags[i] == 1
     }
 
+    /// Under FP i counts as higher than k if its level is smaller or equal, and else as lower.
+    fn higher(&self, k: usize, i: usize) -> bool {
+        self.table.tasks[i].level <= self.table.tasks[k].level
+    }
+
     /// The tasks other than k.
     fn others(&self, k: usize) -> impl Iterator<Item = usize> {
         (0..self.table.tasks.len()).filter(move |&i| i != k)
@@ -65,7 +70,7 @@ impl Round<'_> {
     /// Preemptive k under FP, same q: each higher i and each lower non-preemptive i.
     fn sum_preemptive_fp(&self, k: usize, l: i64) -> i64 {
         let q = l - self.cost(k) + 1;
-        let counts = |i: &usize| *i < k || !self.preemptive(*i);
+        let counts = |i: &usize| self.higher(k, *i) || !self.preemptive(*i);
         self.others(k).filter(counts).map(|i| self.w(i, l).min(q)).sum()
     }
 
@@ -92,7 +97,7 @@ impl Round<'_> {
         let mut sum = 0;
         let mut candidates = Vec::new();
         for i in self.others(k) {
-            if i < k {
+            if self.higher(k, i) {
                 sum += self.w(i, l).min(l);
             } else if !self.preemptive(i) {
                 candidates.push(self.w(i, l).min(self.cost(i) - 1).min(l));

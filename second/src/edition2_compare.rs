@@ -12,6 +12,7 @@ use crate::plan::{check_list, check_text, write, Refusal, Table};
 use crate::random::Random;
 use crate::tables::{all_small_tables, near_edge, small_table};
 use crate::texts::{damaged, off_border};
+use crate::{word, word_tables};
 
 /// What a call returns besides its records.
 #[derive(Clone, Copy, Debug, Default, PartialEq, Eq)]
@@ -26,6 +27,8 @@ pub struct Said {
     pub passes: u32,
     /// The rounds of the last test under edition 2, also with a no; 0 under edition 1 and in every refusal.
     pub rounds: u32,
+    /// The flags word of the records; 0 in every refusal.
+    pub word: u32,
 }
 
 /// The other planner.
@@ -35,6 +38,11 @@ pub trait Planner {
 
     /// Job, edition, cores and policy, tasks (flag, T, C, D each), records.
     fn list(&self, job: u32, edition: u32, head: [u32; 2], tasks: &[u32], records: &mut [u32]) -> Said;
+
+    /// Whether it tells the flags word; where it does not, that is not compared.
+    fn tells_word(&self) -> bool {
+        true
+    }
 }
 
 // ---------------------------------------------------------------- what is expected
@@ -53,10 +61,10 @@ pub fn flat(records: &[Record]) -> Vec<u32> {
 
 /// The answer under edition 1, taken apart.
 fn first_edition(job: u32, checked: Result<Table, Refusal>) -> Answer {
-    let compare::Answer { word, records } = compare::answer(job, checked);
-    let byte = |at: u32| (word >> at) as u32 % 256;
-    let yes = word >> 32 == 1;
-    (Said { number: byte(0), place: byte(8), yes, forced: byte(16), passes: byte(24), rounds: 0 }, records)
+    let compare::Answer { told: (told, word), records } = compare::answer(job, checked);
+    let byte = |at: u32| (told >> at) as u32 % 256;
+    let (number, place, forced, passes) = (byte(0), byte(8), byte(16), byte(24));
+    (Said { number, place, yes: told >> 32 == 1, forced, passes, rounds: 0, word }, records)
 }
 
 /// The answer for a table that was checked, or for its refusal.
@@ -70,14 +78,16 @@ pub fn answer(job: u32, edition: u32, checked: Result<Table, Refusal>) -> Answer
     };
     if job == TEST {
         let answer = test(&table, bound_of);
-        let said = Said { yes: answer.yes, rounds: answer.rounds, ..Said::default() };
+        let word = word::due(&answer.records);
+        let said = Said { yes: answer.yes, rounds: answer.rounds, word, ..Said::default() };
         return (said, flat(&answer.records));
     }
     match force(&table, bound_of) {
         Err(refusal) => refused(refusal),
         Ok(answer) => {
             let (forced, passes, rounds) = (answer.forced, answer.passes, answer.rounds);
-            (Said { yes: true, forced, passes, rounds, ..Said::default() }, flat(&answer.records))
+            let word = word::due(&answer.records);
+            (Said { yes: true, forced, passes, rounds, word, ..Said::default() }, flat(&answer.records))
         }
     }
 }
@@ -114,13 +124,19 @@ fn untouched(room: usize) -> Vec<u32> {
 }
 
 /// Calls, and compares what is said and all of the caller's list.
-fn call(expected: Answer, room: usize, other: impl FnOnce(&mut [u32]) -> Said) -> Result<(), String> {
+fn call(
+    expected: Answer,
+    room: usize,
+    tells_word: bool,
+    other: impl FnOnce(&mut [u32]) -> Said,
+) -> Result<(), String> {
     let mut wanted = untouched(room);
-    deliver((expected.0, expected.1), &mut wanted);
+    let mut due = deliver(expected, &mut wanted);
     let mut records = untouched(room);
     let said = other(&mut records);
-    if said != expected.0 {
-        return Err(format!("said {said:?}, expected {:?}", expected.0));
+    due.word = if tells_word { due.word } else { said.word };
+    if said != due {
+        return Err(format!("said {said:?}, expected {due:?}"));
     }
     if records != wanted {
         return Err(format!("left the list as {records:?}, expected {wanted:?}"));
@@ -133,7 +149,7 @@ pub fn text_call(planner: &impl Planner, call_of: [u32; 2], text: &[u8], room: u
     let [job, edition] = call_of;
     let shown = || format!("job {job}, edition {edition}, room {room}, {:?}", String::from_utf8_lossy(text));
     let expected = answer(job, edition, check_text(text, room));
-    call(expected, room, |records| planner.text(job, edition, text, records))
+    call(expected, room, planner.tells_word(), |records| planner.text(job, edition, text, records))
         .map_err(|difference| format!("{}: {difference}", shown()))
 }
 
@@ -146,9 +162,10 @@ pub fn list_call(
 ) -> Result<(), String> {
     let [job, edition] = call_of;
     let Table { cores, policy, tasks } = table;
-    let expected = answer(job, edition, check_list(*cores, *policy, tasks, room));
     let numbers = flat_tasks(tasks);
-    call(expected, room, |records| planner.list(job, edition, [*cores, *policy], &numbers, records))
+    let expected = answer(job, edition, check_list(*cores, *policy, &unflat(&numbers), room));
+    let run = |records: &mut [u32]| planner.list(job, edition, [*cores, *policy], &numbers, records);
+    call(expected, room, planner.tells_word(), run)
         .map_err(|difference| format!("job {job}, edition {edition}, room {room}, {table:?}: {difference}"))
 }
 
@@ -226,6 +243,11 @@ pub fn damages(planner: &impl Planner, seed: u64, count: usize) -> Compared {
     Ok(8 * count as u64)
 }
 
+/// The tables made for the flags word.
+pub fn words(planner: &impl Planner) -> Compared {
+    over_tables(planner, word_tables::tables().iter().cloned())
+}
+
 /// A part of everything, in seconds: for every change.
 pub fn short(planner: &impl Planner, seed: u64) -> Compared {
     let mut calls = made(planner)?;
@@ -233,6 +255,7 @@ pub fn short(planner: &impl Planner, seed: u64) -> Compared {
     calls += drawn(planner, seed, 2_000)?;
     calls += edges(planner, seed, 10, 1_000)?;
     calls += damages(planner, seed, 1_000)?;
+    calls += words(planner)?;
     Ok(calls)
 }
 
@@ -245,5 +268,6 @@ pub fn everything(planner: &impl Planner, seed: u64) -> Compared {
     calls += edges(planner, seed, 400, 1_000)?;
     calls += edges(planner, seed + 1, 100, 1_000_000)?;
     calls += damages(planner, seed, 30_000)?;
+    calls += words(planner)?;
     Ok(calls)
 }

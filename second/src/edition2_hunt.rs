@@ -4,7 +4,7 @@
 use crate::edition2::{bound_of, force, round, slacks_after, tested, to_be_forced, Tested};
 use crate::edition2_bound::largest_difference;
 use crate::edition2_textbook::bound_by_leaps;
-use crate::plan::{Table, LONGEST_PERIOD};
+use crate::plan::{Table, Task, LONGEST_PERIOD};
 use crate::random::Random;
 use crate::tables::{draw, scaled, small_table, small_task, spread_period};
 use crate::{forcing, textbook};
@@ -39,7 +39,7 @@ pub fn mutated(random: &mut Random, table: &Table, longest: u32) -> Table {
             3 => task.deadline = task.deadline.saturating_sub(step),
             4 => task.period += step,
             5 => task.period = task.period.saturating_sub(step),
-            6 => *task = small_task(random, longest),
+            6 => *task = Task { level: task.level, ..small_task(random, longest) },
             7 => task.flag = 1 - task.flag,
             _ => task.deadline = task.period,
         }
@@ -70,8 +70,9 @@ pub fn most_rounds(random: &mut Random, start: [u32; 4], climbs: u32, steps: u32
     let [policy, cores, n, longest] = start;
     let mut best = (0, Table { cores, policy, tasks: Vec::new() });
     for _ in 0..climbs {
-        let tasks = (0..n).map(|_| small_task(random, longest)).collect();
-        let found = climb(random, Table { cores, policy, tasks }, steps, longest, 2 * LONGEST_PERIOD);
+        let tasks: Vec<Task> = (0..n).map(|_| small_task(random, longest)).collect();
+        let start = Table::in_places(cores, policy, &tasks);
+        let found = climb(random, start, steps, longest, 2 * LONGEST_PERIOD);
         if found.0 > best.0 {
             best = found;
         }

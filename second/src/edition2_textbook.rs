@@ -26,13 +26,14 @@ impl Term {
         let rest = (this.deadline % task.period).saturating_sub(slack);
         let e = this.deadline / task.period * task.cost + task.cost.min(rest);
         let capped = edf && (i_preemptive || !k_preemptive);
-        let later = if edf { task.deadline > this.deadline } else { i > k };
+        let lower = task.level > this.level;
+        let later = if edf { task.deadline > this.deadline } else { lower };
         Term {
             period: task.period,
             cost: task.cost,
             shift: task.deadline - slack - task.cost,
             cap: if capped { e } else { u32::MAX },
-            adds: edf || i < k || (k_preemptive && !i_preemptive),
+            adds: edf || !lower || (k_preemptive && !i_preemptive),
             blocks: !k_preemptive && !i_preemptive && later,
         }
     }

@@ -6,6 +6,7 @@ use crate::edition2_compare::{self, flat, refused, Answer, Answering, Planner, S
 use crate::edition2_slips::Slip::{self, *};
 use crate::forcing::Record;
 use crate::plan::{Refusal, Table, EDF};
+use crate::word;
 
 // ---------------------------------------------------------------- bounds with a slip
 
@@ -34,14 +35,15 @@ fn sum(slip: Slip, table: &Table, flags: &[u32], slacks: &[u32], k: usize, l: i6
             _ => d_k / t * c + c.min(0.max(d_k % t - s)),
         };
         let capped = edf && (i_preemptive || !k_preemptive);
-        let adds = edf || i < k || (k_preemptive && !i_preemptive);
+        let lower = task.level > this.level;
+        let adds = edf || !lower || (k_preemptive && !i_preemptive);
         let term = if !adds { 0 } else { if capped { w.min(e) } else { w }.min(q) };
         total += term;
         let later = match slip {
             DifferencesOfAll if edf => true,
             DifferencesOfTies if edf => task.deadline >= this.deadline,
             _ if edf => task.deadline > this.deadline,
-            _ => i > k,
+            _ => lower,
         };
         let may_block = !i_preemptive || (edf && slip == DifferencesOfPreemptive);
         if !k_preemptive && may_block && later {
@@ -162,7 +164,8 @@ fn force(slip: Slip, table: &Table) -> Answer {
                 RoundsOfFirstTest => counts[0],
                 _ => rounds,
             };
-            return (Said { yes: true, forced, passes, rounds, ..Said::default() }, flat(&records));
+            let word = word::due(&records);
+            return (Said { yes: true, forced, passes, rounds, word, ..Said::default() }, flat(&records));
         }
         let next = next_forced(slip, &flags, &bounds);
         if next.is_empty() {
@@ -199,5 +202,6 @@ fn answer(slip: Slip, job: u32, table: &Table) -> Answer {
     let (_, bounds, rounds) = tested(slip, table, &flags, &vec![0; flags.len()]);
     let yes = bounds.iter().all(|bound| bound.is_some());
     let rounds = if slip == RoundsOfYesOnly && !yes { 0 } else { rounds };
-    (Said { yes, rounds, ..Said::default() }, flat(&records(table, &flags, &bounds)))
+    let records = records(table, &flags, &bounds);
+    (Said { yes, rounds, word: word::due(&records), ..Said::default() }, flat(&records))
 }

@@ -11,6 +11,7 @@ use crate::plan::{write, Refusal, Table};
 use crate::random::Random;
 use crate::tables::{all_small_tables, small_table};
 use crate::texts::{damaged, lower_some, off_border};
+use crate::{word, word_tables};
 
 /// What a call returns besides its records.
 #[derive(Clone, Copy, Debug, Default, PartialEq, Eq)]
@@ -24,6 +25,8 @@ pub struct Said {
     pub forced: u32,
     /// Those at the fewest cores; under 14 those at 16 cores; 0 in every other refusal.
     pub passes: u32,
+    /// The flags word of the records; 0 in every refusal.
+    pub word: u32,
 }
 
 /// The other search.
@@ -33,6 +36,11 @@ pub trait Searcher {
 
     /// Cores and policy, tasks (flag, T, C, D each), records.
     fn list(&self, head: [u32; 2], tasks: &[u32], records: &mut [u32]) -> Said;
+
+    /// Whether it tells the flags word; where it does not, that is not compared.
+    fn tells_word(&self) -> bool {
+        true
+    }
 }
 
 // ---------------------------------------------------------------- what is expected
@@ -46,7 +54,8 @@ pub fn answer(found: Result<Fewest, Refusal>) -> Answer {
             (Said { number, place, passes, ..Said::default() }, Vec::new())
         }
         Ok(Fewest { cores, forcing }) => {
-            let said = Said { cores, forced: forcing.forced, passes: forcing.passes, ..Said::default() };
+            let (forced, passes, word) = (forcing.forced, forcing.passes, word::due(&forcing.records));
+            let said = Said { cores, forced, passes, word, ..Said::default() };
             (said, flat(&forcing.records))
         }
     }
@@ -86,11 +95,17 @@ fn untouched(room: usize) -> Vec<u32> {
 }
 
 /// Calls, and compares what is said and all of the caller's list.
-fn call(expected: Answer, room: usize, other: impl FnOnce(&mut [u32]) -> Said) -> Result<(), String> {
+fn call(
+    expected: Answer,
+    room: usize,
+    tells_word: bool,
+    other: impl FnOnce(&mut [u32]) -> Said,
+) -> Result<(), String> {
     let mut wanted = untouched(room);
-    let due = deliver(expected, &mut wanted);
+    let mut due = deliver(expected, &mut wanted);
     let mut records = untouched(room);
     let said = other(&mut records);
+    due.word = if tells_word { due.word } else { said.word };
     if said != due {
         return Err(format!("said {said:?}, expected {due:?}"));
     }
@@ -102,14 +117,16 @@ fn call(expected: Answer, room: usize, other: impl FnOnce(&mut [u32]) -> Said) -
 
 /// One text.
 pub fn text_call(searcher: &impl Searcher, text: &[u8], room: usize) -> Result<(), String> {
-    call(expected_of_text(text, room), room, |records| searcher.text(text, records))
+    let run = |records: &mut [u32]| searcher.text(text, records);
+    call(expected_of_text(text, room), room, searcher.tells_word(), run)
         .map_err(|what| format!("room {room}, {:?}: {what}", String::from_utf8_lossy(text)))
 }
 
 /// One list. The numbers need not be legal.
 pub fn list_call(searcher: &impl Searcher, table: &Table, room: usize) -> Result<(), String> {
     let (head, numbers) = ([table.cores, table.policy], flat_tasks(&table.tasks));
-    call(expected_of_list(head, &numbers, room), room, |records| searcher.list(head, &numbers, records))
+    let run = |records: &mut [u32]| searcher.list(head, &numbers, records);
+    call(expected_of_list(head, &numbers, room), room, searcher.tells_word(), run)
         .map_err(|what| format!("room {room}, {table:?}: {what}"))
 }
 
@@ -184,6 +201,11 @@ pub fn damages(searcher: &impl Searcher, seed: u64, count: usize) -> Compared {
     Ok(2 * count as u64)
 }
 
+/// The tables made for the flags word.
+pub fn words(searcher: &impl Searcher) -> Compared {
+    over_tables(searcher, word_tables::tables().iter().cloned())
+}
+
 /// A part of everything, in seconds: for every change.
 pub fn short(searcher: &impl Searcher, seed: u64) -> Compared {
     let mut calls = made(searcher)?;
@@ -191,6 +213,7 @@ pub fn short(searcher: &impl Searcher, seed: u64) -> Compared {
     calls += drawn(searcher, seed, 1_000)?;
     calls += edges(searcher, seed, 32, 1_000)?;
     calls += damages(searcher, seed, 2_000)?;
+    calls += words(searcher)?;
     Ok(calls)
 }
 
@@ -202,5 +225,6 @@ pub fn everything(searcher: &impl Searcher, seed: u64) -> Compared {
     calls += edges(searcher, seed, 480, 1_000)?;
     calls += edges(searcher, seed + 1, 96, 1_000_000)?;
     calls += damages(searcher, seed, 60_000)?;
+    calls += words(searcher)?;
     Ok(calls)
 }

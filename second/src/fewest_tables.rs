@@ -135,7 +135,7 @@ fn heavy(random: &mut Random) -> Table {
             task.cost = task.deadline - random.small(0, (task.deadline - 1).min(2));
         }
     }
-    Table { cores: random.small(1, 12), policy: random.small(0, 1), tasks }
+    Table::in_places(random.small(1, 12), random.small(0, 1), &tasks)
 }
 
 /// Tables where one more core changes which tasks are forced, and some are forced even then.

@@ -6,9 +6,9 @@ use crate::plan::{Table, Task, EDF, FP};
 pub fn table(policy: u32, cores: u32, tasks: &[(u32, u32, u32, char)]) -> Table {
     let mut list = Vec::new();
     for &(period, cost, deadline, flag) in tasks {
-        list.push(Task { flag: u32::from(flag == 'P'), period, cost, deadline });
+        list.push(Task::of_four(u32::from(flag == 'P'), period, cost, deadline));
     }
-    Table { cores, policy, tasks: list }
+    Table::in_places(cores, policy, &list)
 }
 
 pub fn case_a() -> Table {

@@ -4,9 +4,10 @@ use crate::forcing::force;
 use crate::listing::listing_of_table;
 use crate::plan::Table;
 use crate::random::Random;
+use crate::slips::Slip;
 use crate::tables::{all_tables, small_table};
 use crate::textbook;
-use crate::wrong::{self, Slip};
+use crate::wrong;
 
 /// Whether the table gives the slip away.
 pub fn catches(table: &Table, slip: Slip) -> bool {

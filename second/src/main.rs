@@ -7,6 +7,7 @@ mod commands {
     pub mod plans;
     pub mod rounds;
     pub mod text_cases;
+    pub mod word;
 }
 
 use std::path::Path;
@@ -14,6 +15,7 @@ use std::process::ExitCode;
 
 const USAGE: &str = "usage: second COMMAND
   listing [2]          a plan on standard input, its listing on standard output, under edition 1 or 2
+  word [2]             the manifest's word line of that plan, under edition 1 or 2
   text-cases DIR       writes DIR/stdin and DIR/stdout, the reading cases and the plan cases
   plans ROOT           writes the plans of ROOT/examples and ROOT/corpus
   examples DIR         writes NAME.listing beside each NAME.plan of DIR
@@ -27,6 +29,8 @@ fn main() -> ExitCode {
     let done = match words[..] {
         ["listing"] => commands::listing::run(1),
         ["listing", "2"] => commands::listing::run(2),
+        ["word"] => commands::word::run(1),
+        ["word", "2"] => commands::word::run(2),
         ["text-cases", dir] => commands::text_cases::run(Path::new(dir)),
         ["plans", root] => commands::plans::run(Path::new(root)),
         ["examples", dir] => commands::listings::run(Path::new(dir)),

@@ -1,10 +1,11 @@
-//! Tables, the lines of hexadecimal that carry them, and the refusals 1 to 13.
+//! Tables, the lines of hexadecimal that carry them, and the refusals 1 to 13 and 17.
 
 pub const EDF: u32 = 0;
 pub const FP: u32 = 1;
 pub const MOST_CORES: u32 = 16;
 pub const MOST_TASKS: usize = 32;
 pub const LONGEST_PERIOD: u32 = 1_000_000;
+pub const LOWEST_LEVEL: u32 = 32;
 pub const LONGEST_PLAN: usize = 1_003;
 
 /// Bytes of a frame, check included.
@@ -18,6 +19,20 @@ pub struct Task {
     pub period: u32,
     pub cost: u32,
     pub deadline: u32,
+    /// 1 to 32, 1 the highest (document 02, wish 8). Only FP looks at it.
+    pub level: u32,
+}
+
+impl Task {
+    /// A task by the four numbers of an old line or call. Its level comes with its place in a table.
+    pub const fn of_four(flag: u32, period: u32, cost: u32, deadline: u32) -> Task {
+        Task { flag, period, cost, deadline, level: 0 }
+    }
+}
+
+/// The tasks with their places as levels, as they come from old lines and calls.
+pub fn in_places(tasks: &[Task]) -> Vec<Task> {
+    (1..).zip(tasks).map(|(level, task)| Task { level, ..*task }).collect()
 }
 
 #[derive(Clone, Debug, PartialEq, Eq)]
@@ -28,6 +43,11 @@ pub struct Table {
 }
 
 impl Table {
+    /// A table from old lines or calls.
+    pub fn in_places(cores: u32, policy: u32, tasks: &[Task]) -> Table {
+        Table { cores, policy, tasks: in_places(tasks) }
+    }
+
     /// The flags as given. Bounds take their flags apart from the table, since forcing changes them.
     pub fn flags(&self) -> Vec<u32> {
         self.tasks.iter().map(|task| task.flag).collect()
@@ -59,7 +79,7 @@ pub fn read(text: &[u8]) -> Result<Table, Refusal> {
     for i in 1..=n {
         let line = i as u32 + 1;
         let bytes = frame(&mut left, TASK_FRAME, 0x02, line)?;
-        let task = task_of(&bytes);
+        let task = Task { level: i as u32, ..task_of(&bytes) };
         check_task(&task, line)?;
         tasks.push(task);
     }
@@ -113,10 +133,10 @@ pub fn raised(text: &[u8]) -> Vec<u8> {
     text.iter().map(raise).collect()
 }
 
-/// The fields of a task frame: 02, flag, T, C, D, check.
+/// The fields of a task frame: 02, flag, T, C, D, check. It has no level: that is the task's place.
 fn task_of(bytes: &[u8]) -> Task {
     let number = |at: usize| u32::from_be_bytes([bytes[at], bytes[at + 1], bytes[at + 2], bytes[at + 3]]);
-    Task { flag: bytes[1] as u32, period: number(2), cost: number(6), deadline: number(10) }
+    Task::of_four(bytes[1] as u32, number(2), number(6), number(10))
 }
 
 // ---------------------------------------------------------------- ranges
@@ -135,7 +155,7 @@ fn check_head(cores: u32, policy: u32, n: usize, place: u32) -> Result<(), Refus
     Ok(())
 }
 
-/// Refusals 8, 9, 10, 11. The deadline comes before the cost here, though not in the frame.
+/// Refusals 8, 9, 10, 11, 17. The deadline comes before the cost here, though not in the frame.
 fn check_task(task: &Task, place: u32) -> Result<(), Refusal> {
     if task.flag > 1 {
         return refuse(8, place);
@@ -149,11 +169,14 @@ fn check_task(task: &Task, place: u32) -> Result<(), Refusal> {
     if !(1..=task.deadline).contains(&task.cost) {
         return refuse(11, place);
     }
+    if !(1..=LOWEST_LEVEL).contains(&task.level) {
+        return refuse(17, place);
+    }
     Ok(())
 }
 
-/// A call on cores, policy and a list of tasks: 5, 6, 7, then 8 to 11 task by task, then 13. The place is
-/// 0 for 5, 6, 7 and 13, and the task's number for 8 to 11.
+/// A call on cores, policy and a list of tasks: 5, 6, 7, then 8 to 11 and 17 task by task, then 13. The place
+/// is 0 for 5, 6, 7 and 13, and the task's number for 8 to 11 and 17.
 pub fn check_list(cores: u32, policy: u32, tasks: &[Task], room: usize) -> Result<Table, Refusal> {
     check_head(cores, policy, tasks.len(), 0)?;
     for (at, task) in tasks.iter().enumerate() {
@@ -180,8 +203,8 @@ fn check_room(n: usize, room: usize) -> Result<(), Refusal> {
 
 // ---------------------------------------------------------------- writing
 
-/// The plan text of a table. The ranges are not looked at, so that texts to be refused can be written too;
-/// what does not fit its bytes is cut to its lowest ones.
+/// The plan text of a table, without its levels. The ranges are not looked at, so that texts to be refused
+/// can be written too; what does not fit its bytes is cut to its lowest ones.
 pub fn write(table: &Table) -> Vec<u8> {
     let n = table.tasks.len() as u8;
     let mut text = line(&[0x01, table.cores as u8, table.policy as u8, n]);

@@ -7,8 +7,8 @@ use crate::hunt::catches;
 use crate::listing::listing;
 use crate::plan::{read, write, Table, Task, EDF, FP, LONGEST_PERIOD};
 use crate::random::Random;
+use crate::slips::WRONG;
 use crate::tables::{climb, draw, edge_pair, next_edge_pair, small_table};
-use crate::wrong::WRONG;
 use crate::{bound, textbook};
 
 pub const SEED: u64 = 202;
@@ -210,9 +210,9 @@ fn equal_deadlines(random: &mut Random, policy: u32) -> Table {
     let mut tasks = Vec::new();
     for _ in 0..n {
         let cost = random.small(1, (3 * deadline / (2 * n)).max(1));
-        tasks.push(Task { flag: random.small(0, 1), period: random.small(deadline, 60), cost, deadline });
+        tasks.push(Task::of_four(random.small(0, 1), random.small(deadline, 60), cost, deadline));
     }
-    Table { cores: random.small(1, 2), policy, tasks }
+    Table::in_places(random.small(1, 2), policy, &tasks)
 }
 
 /// A table at the edge on just this many cores.

@@ -28,7 +28,7 @@ pub fn line_for(result: &Result<Table, Refusal>) -> String {
         Ok(table) => {
             let Table { cores, policy, tasks } = table;
             let mut text = format!("read cores {cores} policy {policy} tasks {}", tasks.len());
-            for Task { flag, period, cost, deadline } in tasks {
+            for Task { flag, period, cost, deadline, .. } in tasks {
                 text += &format!(" | {flag} {period} {cost} {deadline}");
             }
             text + " rest 0\n"
@@ -143,20 +143,20 @@ fn heads(all: &mut Vec<Case>) {
 fn tasks(all: &mut Vec<Case>) {
     let mut list = Vec::new();
     for flag in [0, 1, 2, 255] {
-        list.push(Task { flag, period: 10, cost: 3, deadline: 7 });
+        list.push(Task::of_four(flag, 10, 3, 7));
     }
     for period in [0, 1, 2, 255, 256, 65_536, 999_999, 1_000_000, 1_000_001, 1 << 24, 1 << 31, u32::MAX] {
         for deadline in [0, 1, period, period.saturating_add(1), period.saturating_sub(1)] {
             for cost in [0, 1, deadline, deadline.saturating_add(1), deadline.saturating_sub(1), u32::MAX] {
-                list.push(Task { flag: 1, period, cost, deadline });
+                list.push(Task::of_four(1, period, cost, deadline));
             }
         }
     }
     list.dedup();
     for (count, task) in list.into_iter().enumerate() {
-        plain(all, write(&Table { cores: 1, policy: 0, tasks: vec![task] }));
+        plain(all, write(&Table::in_places(1, 0, &[task])));
         if count % 4 == 0 {
-            plain(all, write(&Table { cores: 2, policy: 1, tasks: vec![case_a().tasks[0], task] }));
+            plain(all, write(&Table::in_places(2, 1, &[case_a().tasks[0], task])));
         }
     }
 }

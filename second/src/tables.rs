@@ -13,8 +13,8 @@ pub fn all_tasks(longest: u32) -> Vec<Task> {
     for period in 1..=longest {
         for deadline in 1..=period {
             for cost in 1..=deadline {
-                tasks.push(Task { flag: 1, period, cost, deadline });
-                tasks.push(Task { flag: 0, period, cost, deadline });
+                tasks.push(Task::of_four(1, period, cost, deadline));
+                tasks.push(Task::of_four(0, period, cost, deadline));
             }
         }
     }
@@ -32,7 +32,7 @@ pub fn all_tables(longest: u32, most: u32, cores: u32) -> impl Iterator<Item = T
             let list = list_numbered(&tasks, n, number);
             (1..=cores).flat_map(move |cores| {
                 let list = list.clone();
-                [EDF, FP].into_iter().map(move |policy| Table { cores, policy, tasks: list.clone() })
+                [EDF, FP].into_iter().map(move |policy| Table::in_places(cores, policy, &list))
             })
         })
     })
@@ -83,9 +83,11 @@ pub struct Draw {
     pub deadlines: Vec<u32>,
     /// Share of one core in millionths.
     pub shares: Vec<u64>,
+    pub levels: Vec<u32>,
 }
 
-/// Draws all but the costs. Half the tables have D = T; some have tasks given as non-preemptive.
+/// Draws all but the costs. Half the tables have D = T; some have tasks given as non-preemptive. The levels
+/// are the places.
 pub fn draw(random: &mut Random, policy: u32, cores: u32, n: usize, longest: u32) -> Draw {
     let mut periods: Vec<u32> = (0..n).map(|_| spread_period(random, longest)).collect();
     if random.once_in(2) {
@@ -104,7 +106,7 @@ pub fn draw(random: &mut Random, policy: u32, cores: u32, n: usize, longest: u32
         flags.push(u32::from(given == 0 || !random.once_in(given)));
     }
     let shares = shares(random, n, 1_000_000 * cores as u64);
-    Draw { cores, policy, flags, periods, deadlines, shares }
+    Draw { cores, policy, flags, periods, deadlines, shares, levels: (1..=n as u32).collect() }
 }
 
 /// The table of a draw with all costs scaled by scale / 65,536 and kept legal.
@@ -114,7 +116,7 @@ pub fn scaled(draw: &Draw, scale: u64) -> Table {
         let (period, deadline) = (draw.periods[i], draw.deadlines[i]);
         let wanted = draw.shares[i] * period as u64 / 1_000_000 * scale / 65_536;
         let cost = wanted.clamp(1, deadline as u64) as u32;
-        tasks.push(Task { flag: draw.flags[i], period, cost, deadline });
+        tasks.push(Task { flag: draw.flags[i], period, cost, deadline, level: draw.levels[i] });
     }
     Table { cores: draw.cores, policy: draw.policy, tasks }
 }
@@ -170,14 +172,14 @@ pub fn small_task(random: &mut Random, longest: u32) -> Task {
     let deadline = if random.once_in(2) { period } else { random.small(1, period) };
     let cost = random.small(1, deadline);
     let cost = if random.once_in(2) { cost } else { (cost / 2).max(1) };
-    Task { flag: u32::from(!random.once_in(4)), period, cost, deadline }
+    Task::of_four(u32::from(!random.once_in(4)), period, cost, deadline)
 }
 
 /// A random table with small times, of any kind.
 pub fn small_table(random: &mut Random, most: u32, cores: u32, longest: u32) -> Table {
     let n = random.small(1, most);
-    let tasks = (0..n).map(|_| small_task(random, longest)).collect();
-    Table { cores: random.small(1, cores), policy: random.small(0, 1), tasks }
+    let tasks: Vec<Task> = (0..n).map(|_| small_task(random, longest)).collect();
+    Table::in_places(random.small(1, cores), random.small(0, 1), &tasks)
 }
 
 // ---------------------------------------------------------------- tables that take many passes
@@ -203,7 +205,7 @@ fn nudge(random: &mut Random, table: &Table, longest: u32) -> Table {
         3 => task.deadline = task.deadline.saturating_sub(step),
         4 => task.period += step,
         5 => task.period = task.period.saturating_sub(step),
-        6 => *task = Task { flag: task.flag, ..small_task(random, longest) },
+        6 => *task = Task { flag: task.flag, level: task.level, ..small_task(random, longest) },
         _ => task.deadline = task.period,
     }
     task.period = task.period.clamp(1, longest);

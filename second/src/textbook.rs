@@ -37,8 +37,9 @@ fn other(table: &Table, flags: &[u32], k: usize, i: usize) -> Other {
     let (task, this) = (&table.tasks[i], &table.tasks[k]);
     let (preemptive_i, preemptive_k, edf) = (flags[i] == 1, flags[k] == 1, table.policy == EDF);
     let capped = edf && (preemptive_i || !preemptive_k);
-    let adds = edf || i < k || (preemptive_k && !preemptive_i);
-    let later = if edf { task.deadline > this.deadline } else { i > k };
+    let lower = task.level > this.level;
+    let adds = edf || !lower || (preemptive_k && !preemptive_i);
+    let later = if edf { task.deadline > this.deadline } else { lower };
     Other {
         period: task.period,
         cost: task.cost,

@@ -15,8 +15,8 @@ const HEAD_LINE: usize = 10 + 1;
 const TASK_LINE: usize = 30 + 1;
 
 /// Writes the plan of a legal table into the buffer from the start place; the answer is the end place, the
-/// first after the last 0A. Bytes before the start and after the end stay. Refusals: 5 to 11 as for a list,
-/// then 16; nothing is written then.
+/// first after the last 0A. Bytes before the start and after the end stay. Refusals: 5 to 11 and 17 as for a
+/// list, then 16, then 18; nothing is written then.
 pub fn write_at(
     cores: u32,
     policy: u32,
@@ -28,6 +28,7 @@ pub fn write_at(
     // There is no list of records here, so that 13 is never given: as many records are left as are needed.
     check_list(cores, policy, tasks, n)?;
     check_buffer(n, buffer.len(), start)?;
+    check_levels(tasks)?;
     let mut rest = &mut buffer[start..];
     rest = write_frame(rest, &head_bytes(cores, policy, n));
     for task in tasks {
@@ -62,6 +63,17 @@ fn check_buffer(n: usize, size: usize, start: usize) -> Result<(), Refusal> {
     let room = size - start;
     if room < HEAD_LINE + n * TASK_LINE {
         return refuse(16, 0);
+    }
+    Ok(())
+}
+
+/// Refusal 18, place 0, after all others: the old lines have no levels, so that these have to be 1, 2, .. n
+/// in table order.
+fn check_levels(tasks: &[Task]) -> Result<(), Refusal> {
+    for (due, task) in (1..).zip(tasks) {
+        if task.level != due {
+            return refuse(18, 0);
+        }
     }
     Ok(())
 }

@@ -4,8 +4,8 @@
 //! The texts are made of words, four bytes each, the highest first.
 //!
 //! ```text
-//! writing      cores, policy, n, the start in two words, k, then flag T C D of each of k tasks; what
-//!              follows is the buffer. n may be above k only where n is above 32.
+//! writing      cores, policy, n, the start in two words, k, then flag T C D of each of k tasks, the places
+//!              being the levels; what follows is the buffer. n may be above k only where n is above 32.
 //! as changed   the start in two words, the length of the buffer, then the buffer and the plan
 //! ```
 //!
@@ -13,7 +13,7 @@
 
 use crate::hand::{lettered, many};
 use crate::listing::refusal_line;
-use crate::plan::{write, Refusal, Table, Task, MOST_TASKS};
+use crate::plan::{in_places, write, Refusal, Table, Task, MOST_TASKS};
 use crate::random::Random;
 use crate::tables::small_table;
 use crate::textbook;
@@ -156,8 +156,8 @@ pub fn cases_from(seed: u64, tables: u32) -> Vec<Case> {
 
 /// A list of so many tasks.
 fn list_of(n: usize, room: usize) -> Case {
-    let task = Task { flag: 1, period: 9, cost: 1, deadline: 9 };
-    Case { cores: 2, policy: 1, tasks: vec![task; n], start: 0, room }
+    let tasks = in_places(&vec![Task::of_four(1, 9, 1, 9); n]);
+    Case { cores: 2, policy: 1, tasks, start: 0, room }
 }
 
 /// A table with one or two numbers outside their ranges, small or as large as they come.

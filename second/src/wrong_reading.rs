@@ -151,11 +151,11 @@ fn task_of(slip: Slip, bytes: &[u8]) -> Task {
         }
     };
     let (cost, deadline) = if slip == Slip::CostAndDeadlineSwapped { (10, 6) } else { (6, 10) };
-    Task { flag: bytes[1] as u32, period: number(2), cost: number(cost), deadline: number(deadline) }
+    Task::of_four(bytes[1] as u32, number(2), number(cost), number(deadline))
 }
 
 fn check_task(slip: Slip, task: &Task, line: u32) -> Result<(), Refusal> {
-    let Task { flag, period, cost, deadline } = *task;
+    let Task { flag, period, cost, deadline, .. } = *task;
     let flag_wrong = flag > if slip == Slip::FlagTwoRead { 2 } else { 1 };
     let longest = match slip {
         Slip::PeriodMillionRefused => 999_999,
@@ -238,7 +238,7 @@ fn read_lines(slip: Slip, text: &[u8]) -> Result<Table, Refusal> {
         let place = n as u32 + if slip == Slip::RestPlaceOneLess { 1 } else { 2 };
         return refuse(12, place);
     }
-    Ok(Table { cores: head[1] as u32, policy: head[2] as u32, tasks })
+    Ok(Table::in_places(head[1] as u32, head[2] as u32, &tasks))
 }
 
 fn read_tasks(slip: Slip, all: &[u8], left: &mut &[u8], n: usize) -> Result<Vec<Task>, Refusal> {

@@ -5,6 +5,7 @@ use second::edition2_compare::*;
 use second::edition2_slips::{Slip, SAME, WRONG, WRONG_LONG};
 use second::edition2_wrong::planner;
 use second::hand::{case_a, case_e};
+use second::word::COMPARED;
 
 #[test]
 fn this_program_agrees_with_itself() {
@@ -19,7 +20,8 @@ fn what_is_said() {
     assert_eq!(said, Said { yes: true, rounds: 3, ..Said::default() });
     assert_eq!(records, [1, 0, 4, 1, 0, 17, 7, 7, 7]);
     let said = own.list(FORCE, 1, [1, 1], &numbers, &mut records);
-    assert_eq!(said, Said { yes: true, forced: 2, passes: 3, ..Said::default() });
+    let word = if COMPARED { 3 } else { 0 };
+    assert_eq!(said, Said { yes: true, forced: 2, passes: 3, word, ..Said::default() });
     assert_eq!(records, [0, 1, 12, 0, 1, 17, 7, 7, 7]);
     let said = own.list(FORCE, 2, [1, 0], &flat_tasks(&case_e().tasks), &mut records);
     assert_eq!(said, Said { number: 15, place: 1, passes: 3, ..Said::default() });

@@ -4,7 +4,7 @@ use second::fewest::{fewest, fewest_of_list, fewest_of_text, on_cores, Fewest};
 use second::fewest_tables::*;
 use second::forcing::{bounds, force, BoundOf, Record};
 use second::hand::{case_a, case_e, table};
-use second::plan::{refuse, write, Refusal, Table, Task, EDF, FP};
+use second::plan::{in_places, refuse, write, Refusal, Table, Task, EDF, FP};
 use second::random::Random;
 use second::tables::{all_tables, next_edge_pair, small_table};
 use second::{bound, compare, textbook};
@@ -69,8 +69,8 @@ fn records_of_two_by_hand() {
 
 #[test]
 fn refusals_in_their_order() {
-    let full = Task { flag: 1, period: 5, cost: 5, deadline: 5 };
-    let bad = Task { flag: 2, period: 0, cost: 0, deadline: 0 };
+    let full = Task::of_four(1, 5, 5, 5);
+    let bad = Task::of_four(2, 0, 0, 0);
     let flag = Task { flag: 0, ..bad };
     let period = Task { period: 9, ..flag };
     let deadline = Task { deadline: 9, ..period };
@@ -95,7 +95,7 @@ fn refusals_in_their_order() {
         (1, FP, vec![full; 17], 17, fourteen()),
         (16, FP, vec![full; 17], 40, fourteen()),
     ] {
-        assert_eq!(fewest_of_list(cores, policy, &tasks, room, bound::bound_of), said);
+        assert_eq!(fewest_of_list(cores, policy, &in_places(&tasks), room, bound::bound_of), said);
     }
 }
 

@@ -95,7 +95,7 @@ fn compare(table: &Table) -> usize {
 
 /// A table of up to 16 tasks on 16 cores: it passes, each bound being C.
 fn roomy(policy: u32, tasks: &[Task]) -> Table {
-    Table { cores: 16, policy, tasks: tasks.to_vec() }
+    Table::in_places(16, policy, tasks)
 }
 
 /// Compares them 16 at a time, under both policies in turn; all are accepted.
@@ -109,7 +109,7 @@ fn compare_all(tasks: &[Task]) {
 
 /// A task with D between C and T, its flag by turns.
 fn task(random: &mut Random, period: u32, cost: u32) -> Task {
-    Task { flag: random.small(0, 1), period, cost, deadline: random.small(cost, period) }
+    Task::of_four(random.small(0, 1), period, cost, random.small(cost, period))
 }
 
 // ---------------------------------------------------------------- tests
@@ -153,7 +153,7 @@ fn loads_by_hand() {
         (999_998, 999_999, 1000),
         (333_333, 999_999, 334),
     ] {
-        let task = Task { flag: 1, period, cost, deadline: period };
+        let task = Task::of_four(1, period, cost, period);
         assert_eq!(load(&task), by_hand, "{cost} of {period}");
         let text = listing(&write(&roomy(EDF, &[task])), textbook::bound_of);
         let end = format!("load {by_hand}\ntotal load {by_hand} forced 0 passes 1\n");
@@ -220,7 +220,7 @@ fn tables_of_any_kind() {
 /// The largest total: 16 tasks that take a whole core each.
 #[test]
 fn the_largest_roomy_total() {
-    let full = Task { flag: 1, period: 1_000_000, cost: 1_000_000, deadline: 1_000_000 };
+    let full = Task::of_four(1, 1_000_000, 1_000_000, 1_000_000);
     let text = listing(&write(&roomy(FP, &[full; 16])), textbook::bound_of);
     assert!(text.ends_with(" load 1000\ntotal load 16000 forced 0 passes 1\n"), "{text}");
 }

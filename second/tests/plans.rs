@@ -7,8 +7,9 @@ use second::listing::listing;
 use second::plan::{read, Table};
 use second::plan_cases::{cases, expected};
 use second::random::Random;
+use second::slips::{Slip, SAME, WRONG};
 use second::tables::{all_small_tables, next_edge_pair, small_table};
-use second::wrong::{self, Slip, SAME, WRONG};
+use second::wrong;
 use second::{bound, textbook};
 use std::sync::OnceLock;
 

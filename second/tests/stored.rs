@@ -4,7 +4,8 @@
 use second::corpus::{bad, examples, good, Plan};
 use second::hand::case_d;
 use second::plan_cases::expected;
-use second::wrong::{self, SAME, WRONG};
+use second::slips::{SAME, WRONG};
+use second::wrong;
 use second::wrong_reading::SLIPS;
 use second::{batch, forcing, textbook};
 use std::fs;

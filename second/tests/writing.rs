@@ -1,7 +1,7 @@
 //! Writing a plan into a buffer, by hand.
 
 use second::hand::{case_a, case_d, many};
-use second::plan::{read, write, Refusal, Task};
+use second::plan::{in_places, read, write, Refusal, Task};
 use second::textbook;
 use second::writing::{write_at, write_changed};
 use second::writing_cases::letters;
@@ -40,7 +40,7 @@ fn sixteen_at_its_borders() {
 
 #[test]
 fn five_to_eleven_come_first() {
-    let task = Task { flag: 1, period: 12, cost: 4, deadline: 12 };
+    let task = Task::of_four(1, 12, 4, 12);
     for (cores, policy, tasks, said) in [
         (0, 2, vec![], refused(5, 0, 0)),
         (1, 2, vec![], refused(6, 0, 0)),
@@ -52,7 +52,7 @@ fn five_to_eleven_come_first() {
         (1, 1, vec![Task { cost: 0, ..task }, task], refused(11, 1, 0)),
     ] {
         let mut buffer = letters(10);
-        assert_eq!(write_at(cores, policy, &tasks, &mut buffer, 99), said);
+        assert_eq!(write_at(cores, policy, &in_places(&tasks), &mut buffer, 99), said);
         assert_eq!(buffer, letters(10));
     }
 }

@@ -1,24 +1,13 @@
-//! The writer against document 01's bytes, a reader of this file's own, and `plan::write`.
+//! The writer against document 01's bytes, a reader of the tests' own, and `plan::write`.
 
-use second::forcing::force;
-use second::hand::{case_a, case_c, case_d, case_e, case_h, many};
-use second::plan::{check_list, raised, read, refuse, Refusal, Task};
-use second::plan::{write, Table, LONGEST_PERIOD, LONGEST_PLAN};
+mod common;
+
+use common::{changed, expected, noise, random_tables, taken_apart, Said, AS_CHANGED, AS_SENT, LENGTH};
+use second::hand::case_a;
+use second::plan::{check_list, raised, read, refuse, write, Table, Task, LONGEST_PLAN};
 use second::random::Random;
-use second::tables::{next_edge_pair, small_table};
 use second::texts::{damaged, off_border};
-use second::writing::{write_at, write_changed};
-use second::{bound, textbook};
-
-/// Document 01's plan, and the same with both tasks made non-preemptive (case b).
-const AS_SENT: &[u8] = b"01010102FB\x0A02010000000C000000040000000CE1\x0A0201000000180000000900000012CA\x0A";
-const AS_CHANGED: &[u8] =
-    b"01010102FB\x0A02000000000C000000040000000CE2\x0A0200000000180000000900000012CB\x0A";
-
-/// 11 + 2 * 31.
-const LENGTH: usize = 73;
-
-type Said = (Result<usize, Refusal>, Vec<u8>);
+use second::writing::write_at;
 
 /// What is said, and the buffer afterwards.
 fn written(table: &Table, buffer: &[u8], start: usize) -> Said {
@@ -26,31 +15,11 @@ fn written(table: &Table, buffer: &[u8], start: usize) -> Said {
     (write_at(table.cores, table.policy, &table.tasks, &mut buffer, start), buffer)
 }
 
-fn changed(text: &[u8], buffer: &[u8], start: usize) -> Said {
-    let mut buffer = buffer.to_vec();
-    (write_changed(text, &mut buffer, start, textbook::bound_of), buffer)
-}
-
-/// The buffer with this text in it, or 16 and the buffer as it was; the sums in whole numbers that hold
-/// any start.
-fn expected(text: &[u8], buffer: &[u8], start: usize) -> Said {
-    if start as u128 + text.len() as u128 > buffer.len() as u128 {
-        return (refuse(16, 0), buffer.to_vec());
-    }
-    let end = start + text.len();
-    (Ok(end), [&buffer[..start], text, &buffer[end..]].concat())
-}
-
-/// Bytes of every kind, digits and 0A among them.
-fn noise(random: &mut Random, size: usize) -> Vec<u8> {
-    (0..size).map(|_| random.word() as u8).collect()
-}
-
 fn one(task: Task) -> Table {
-    Table { cores: 16, policy: 0, tasks: vec![task] }
+    Table::in_places(16, 0, &[task])
 }
 
-const LEGAL: Task = Task { flag: 1, period: 12, cost: 4, deadline: 12 };
+const LEGAL: Task = Task::of_four(1, 12, 4, 12);
 
 // ------------------------------------------------------------ by hand
 
@@ -66,20 +35,19 @@ fn the_documents_plan() {
 #[test]
 fn lines_added_up_by_hand() {
     // A check of 00; the longest period, 0F4240; the largest head; every digit; both flags.
-    let zero = Task { flag: 0, period: 126, cost: 2, deadline: 126 };
+    let zero = Task::of_four(0, 126, 2, 126);
     let text = b"01100001EE\x0A02000000007E000000020000007E00\x0A";
     assert_eq!(written(&one(zero), &[0; 42], 0), (Ok(42), text.to_vec()));
-    let long = Task { flag: 1, period: 1_000_000, cost: 1_000_000, deadline: 1_000_000 };
+    let long = Task::of_four(1, 1_000_000, 1_000_000, 1_000_000);
     let text = b"01100001EE\x0A0201000F4240000F4240000F42404A\x0A";
     assert_eq!(written(&one(long), &[0; 42], 0), (Ok(42), text.to_vec()));
-    let digits = Task { flag: 1, period: 0x0E_DCBA, cost: 0x01_2345, deadline: 0x06_789F };
+    let digits = Task::of_four(1, 0x0E_DCBA, 0x01_2345, 0x06_789F);
     let text = b"01100001EE\x0A0201000EDCBA000123450006789FD3\x0A";
     assert_eq!(written(&one(digits), &[0; 42], 0), (Ok(42), text.to_vec()));
-    let least = Task { flag: 0, period: 1, cost: 1, deadline: 1 };
-    let least = Table { cores: 1, policy: 1, tasks: vec![least] };
+    let least = Table::in_places(1, 1, &[Task::of_four(0, 1, 1, 1)]);
     let text = b"01010101FC\x0A0200000000010000000100000001FB\x0A";
     assert_eq!(written(&least, &[0; 42], 0), (Ok(42), text.to_vec()));
-    let most = Table { cores: 16, policy: 1, tasks: vec![LEGAL; 32] };
+    let most = Table::in_places(16, 1, &[LEGAL; 32]);
     let (said, buffer) = written(&most, &[0; LONGEST_PLAN], 0);
     assert_eq!((said, &buffer[..11]), (Ok(1_003), &b"01100120CE\x0A"[..]));
     assert!(buffer[11..].chunks(31).all(|line| line == b"02010000000C000000040000000CE1\x0A"));
@@ -90,7 +58,7 @@ fn lines_added_up_by_hand() {
 /// The faults are put right one by one, in the order in which they are met; each other one comes later.
 #[test]
 fn refusals_in_their_order() {
-    let bad = Task { flag: 2, period: 0, cost: 0, deadline: 0 };
+    let bad = Task::of_four(2, 0, 0, 0);
     let list = |tasks: &[Task]| [tasks, &[bad; 31]].concat();
     let flag = Task { flag: 0, ..bad };
     let period = Task { period: 9, ..flag };
@@ -117,7 +85,7 @@ fn refusals_in_their_order() {
     ] {
         for (size, start) in [(0, 0), (5, 6), (100, usize::MAX), (41, 0)] {
             let buffer = vec![b'#'; size];
-            let table = Table { cores, policy, tasks: tasks.clone() };
+            let table = Table::in_places(cores, policy, &tasks);
             assert_eq!(written(&table, &buffer, start), (refuse(number, place), buffer));
         }
     }
@@ -126,7 +94,7 @@ fn refusals_in_their_order() {
 /// The last numbers inside each range are written, the first ones outside refused, with all the room.
 #[test]
 fn ranges_at_their_borders() {
-    let task = Task { flag: 1, period: 20, cost: 10, deadline: 15 };
+    let task = Task::of_four(1, 20, 10, 15);
     for (task, number) in [
         (Task { flag: 2, ..task }, 8),
         (Task { flag: 256, ..task }, 8),
@@ -137,7 +105,7 @@ fn ranges_at_their_borders() {
         (Task { cost: 0, ..task }, 11),
         (Task { cost: 16, ..task }, 11),
     ] {
-        let table = Table { cores: 2, policy: 0, tasks: vec![LEGAL, LEGAL, task] };
+        let table = Table::in_places(2, 0, &[LEGAL, LEGAL, task]);
         assert_eq!(written(&table, &[7; 200], 1), (refuse(number, 3), vec![7; 200]));
     }
     for task in [
@@ -149,7 +117,7 @@ fn ranges_at_their_borders() {
         Task { cost: 1, ..task },
         Task { cost: 15, ..task },
     ] {
-        let table = Table { cores: 2, policy: 0, tasks: vec![LEGAL, LEGAL, task] };
+        let table = Table::in_places(2, 0, &[LEGAL, LEGAL, task]);
         assert_eq!(written(&table, &[7; 200], 1).0, Ok(1 + 11 + 3 * 31));
     }
 }
@@ -184,51 +152,6 @@ fn every_start_in_every_small_buffer() {
 }
 
 // ------------------------------------------------------------ random tables
-
-/// Of any size, with short and long periods, and some at the edge of acceptance.
-fn random_tables(seed: u64) -> Vec<Table> {
-    let mut random = Random::new(seed);
-    let mut tables: Vec<Table> = (1..=32).map(many).collect();
-    for longest in [5, 300, 70_000, LONGEST_PERIOD] {
-        tables.extend((0..150).map(|_| small_table(&mut random, 32, 16, longest)));
-    }
-    for round in 0..40 {
-        let (inside, outside) = next_edge_pair(&mut random, round % 2, 12, 1_000);
-        tables.extend([inside, outside]);
-    }
-    tables
-}
-
-/// Small tables that pass only after forcing.
-fn forced_tables(seed: u64) -> Vec<Table> {
-    let mut random = Random::new(seed);
-    let drawn = std::iter::repeat_with(|| small_table(&mut random, 7, 4, 40));
-    let forced = |table: &Table| force(table, textbook::bound_of).is_ok_and(|answer| answer.forced > 0);
-    drawn.filter(forced).take(200).collect()
-}
-
-/// The table that lines hold, found without `plan::read`; every frame must sum to 0 modulo 256.
-fn taken_apart(text: &[u8]) -> Table {
-    let text = std::str::from_utf8(text).unwrap();
-    assert!(text.ends_with('\n'));
-    let part =
-        |line: &str, at: usize, size: usize| u32::from_str_radix(&line[2 * at..2 * (at + size)], 16).unwrap();
-    let lines: Vec<&str> = text.lines().collect();
-    for line in &lines {
-        assert!(line.bytes().all(|byte| b"0123456789ABCDEF".contains(&byte)));
-        let sum: u32 = (0..line.len() / 2).map(|at| part(line, at, 1)).sum();
-        assert_eq!(sum % 256, 0);
-    }
-    let head = lines[0];
-    assert_eq!((head.len(), part(head, 0, 1), part(head, 3, 1) as usize), (10, 1, lines.len() - 1));
-    let mut tasks = Vec::new();
-    for line in &lines[1..] {
-        assert_eq!((line.len(), part(line, 0, 1)), (30, 2));
-        let (period, cost, deadline) = (part(line, 2, 4), part(line, 6, 4), part(line, 10, 4));
-        tasks.push(Task { flag: part(line, 1, 1), period, cost, deadline });
-    }
-    Table { cores: part(head, 1, 1), policy: part(head, 2, 1), tasks }
-}
 
 #[test]
 fn what_is_written_is_read_and_is_what_plan_writes() {
@@ -287,109 +210,6 @@ fn lists_are_refused_as_for_the_test() {
                 assert_eq!(said, (Err(refusal), buffer));
                 refused += 1;
             }
-        }
-    }
-    assert!(refused >= 100);
-}
-
-// ------------------------------------------------------------ the plan as changed
-
-#[test]
-fn hand_sums_as_changed() {
-    for way in [bound::bound_of, textbook::bound_of] {
-        let mut buffer = [b'#'; 80];
-        assert_eq!(write_changed(AS_SENT, &mut buffer, 4, way), Ok(77));
-        assert_eq!(buffer[..], [b"####", AS_CHANGED, b"###"].concat());
-        // In lower case it is the same plan, and is written in upper case.
-        let mut buffer = [b'#'; 80];
-        assert_eq!(write_changed(&AS_SENT.to_ascii_lowercase(), &mut buffer, 4, way), Ok(77));
-        assert_eq!(buffer[..], [b"####", AS_CHANGED, b"###"].concat());
-    }
-    // Case c passes as given, and is written again as it was sent.
-    let text = b"01010102FB\x0A02010000000C000000040000000BE2\x0A0201000000180000000900000012CA\x0A";
-    assert_eq!(text[..], write(&case_c()));
-    assert_eq!(changed(text, &[0; LENGTH], 0), (Ok(LENGTH), text.to_vec()));
-}
-
-#[test]
-fn changing_refuses_as_forcing_does_and_then_16() {
-    let fourteen = |place, passes| Err(Refusal { number: 14, place, passes });
-    let late = [AS_SENT, b"0"].concat();
-    for (text, said) in [
-        (b"".to_vec(), refuse(1, 1)),
-        (AS_SENT[..LENGTH - 1].to_vec(), refuse(1, 3)),
-        ([&AS_SENT[..LENGTH - 2], b"g\x0A"].concat(), refuse(2, 3)),
-        (b"01010102FA\x0A".to_vec(), refuse(3, 1)),
-        (b"02010102FA\x0A".to_vec(), refuse(4, 1)),
-        (b"01000102FC\x0A".to_vec(), refuse(5, 1)),
-        (b"01010202FA\x0A".to_vec(), refuse(6, 1)),
-        (b"01010100FD\x0A".to_vec(), refuse(7, 1)),
-        (b"01010101FC\x0A02020000000C000000040000000CE0\x0A".to_vec(), refuse(8, 2)),
-        (b"01010101FC\x0A020100000000000000040000000CED\x0A".to_vec(), refuse(9, 2)),
-        (b"01010101FC\x0A02010000000C000000040000000DE0\x0A".to_vec(), refuse(10, 2)),
-        (b"01010101FC\x0A02010000000C0000000D0000000CD8\x0A".to_vec(), refuse(11, 2)),
-        (late, refuse(12, 4)),
-        (write(&case_d()), fourteen(1, 2)),
-        (write(&case_e()), fourteen(1, 3)),
-        (write(&case_h()), fourteen(2, 4)),
-    ] {
-        for (size, start) in [(0, 0), (200, 0), (200, 200), (200, 201), (200, usize::MAX)] {
-            let buffer = vec![b'#'; size];
-            assert_eq!(changed(&text, &buffer, start), (said, buffer));
-        }
-    }
-    for (size, start) in [(0, 0), (72, 0), (200, 128), (200, 200), (200, 201), (200, usize::MAX)] {
-        let buffer = vec![b'#'; size];
-        assert_eq!(changed(AS_SENT, &buffer, start), (refuse(16, 0), buffer));
-    }
-    assert_eq!(changed(AS_SENT, &[0; 200], 127).0, Ok(200));
-}
-
-/// What is written differs from what was sent in the flags alone, is forced no further, and needs one
-/// pass; a refused plan writes nothing.
-#[test]
-fn random_plans_as_changed() {
-    let mut random = Random::new(36);
-    let (mut forced, mut refused) = (0, 0);
-    for table in random_tables(37).into_iter().chain(forced_tables(37)) {
-        let text = write(&table);
-        let start = random.small(0, 20) as usize;
-        let buffer = noise(&mut random, start + text.len() + 9);
-        let (said, now) = changed(&text, &buffer, start);
-        let answer = match force(&table, textbook::bound_of) {
-            Ok(answer) => answer,
-            Err(refusal) => {
-                assert_eq!((said, now), (Err(refusal), buffer));
-                refused += 1;
-                continue;
-            }
-        };
-        let mut wanted = table.clone();
-        for k in 0..wanted.tasks.len() {
-            wanted.tasks[k].flag -= answer.records[k].forced;
-        }
-        assert_eq!((said, now.clone()), expected(&write(&wanted), &buffer, start));
-        let again = &now[start..start + text.len()];
-        assert_eq!(taken_apart(again), wanted);
-        assert_eq!(changed(again, &buffer, start), (said, now.clone()));
-        let last = force(&wanted, textbook::bound_of).unwrap();
-        assert_eq!((last.forced, last.passes), (0, 1));
-        forced += u32::from(answer.forced > 0);
-    }
-    assert!(forced >= 200 && refused >= 100);
-}
-
-#[test]
-fn damaged_plans_are_refused_as_by_reading() {
-    let mut random = Random::new(38);
-    let mut refused = 0;
-    for table in random_tables(39) {
-        let text = damaged(&mut random, &table);
-        if let Err(refusal) = read(&text) {
-            let buffer = noise(&mut random, LONGEST_PLAN);
-            let start = random.pick(&[0, LONGEST_PLAN, usize::MAX]);
-            assert_eq!(changed(&text, &buffer, start), (Err(refusal), buffer));
-            refused += 1;
         }
     }
     assert!(refused >= 100);

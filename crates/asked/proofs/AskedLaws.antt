@@ -4,6 +4,7 @@
 use Prim.Native.Nat.{ℕ, _≤_}
 use native.Mathlib.Omega.{arith}
 use mathlib.Core.Path.{_≡_, sym, ap, subst, _∙_}
+use mathlib.Core.Bool.{Bool}
 use mathlib.Core.List.{List}
 use Rattle.table.specs.declared.Table.{Table}
 use Rattle.table.specs.declared.Checked.{Checked}
@@ -30,7 +31,8 @@ use Rattle.flat.specs.Flat.{flatAfter}
 use Rattle.loading.specs.declared.Loaded.{Loaded}
 use Rattle.loading.specs.Loaded.{LoadedAs}
 use Rattle.row_reader.specs.RowsRead.{PlanLoaded}
-use Rattle.row_list.specs.ListLoaded.{tableIn, ListLoaded}
+use Rattle.flat_tasks.specs.FlatTasks.{tableIn}
+use Rattle.row_list.specs.ListLoaded.{ListLoaded}
 use Rattle.asked.specs.Asked.{Answerable, AnsweredBy, foundDone, Answered, AskedAs}
 
 module _ {found : Checked} {t : Table} {r : Loaded} {is rs cs js : List ℕ}
@@ -62,17 +64,19 @@ module _ (text : List ℕ) {r : Loaded} {is rs cs js : List ℕ} (loaded : PlanL
   unfolding planDone
   plan-is job room a = plan-by (foundDone job room) a
 
-module _ (cores policy : ℕ) (xs : List ℕ) {r : Loaded} {is rs cs js : List ℕ}
-    (loaded : ListLoaded cores policy xs r is rs cs js) where
+module _ (levels : Bool) (cores policy : ℕ) (xs : List ℕ) {r : Loaded} {is rs cs js : List ℕ}
+    (loaded : ListLoaded levels cores policy xs r is rs cs js) where
   pub list-rows : Answerable r is rs cs js
   list-rows = loaded-rows loaded fine-legal
 
   pub list-by : {A : Type 0} (f : Checked → Table → A) {d : A} → AnsweredBy f r is rs cs js d
-      → d ≡ f (checkOf (tableIn cores policy xs)) (tableIn cores policy xs)
+      → d ≡ f (checkOf (tableIn levels cores policy xs)) (tableIn levels cores policy xs)
   list-by f a = loaded-by loaded fine-legal f a
 
   pub list-is : (job : Job) (room : ℕ) {d : Done} → Answered job room r is rs cs js d
-      → d ≡ listDone cores policy (tableIn cores policy xs .n) (tableIn cores policy xs .tasks) job room
+      → d
+      ≡ listDone cores policy (tableIn levels cores policy xs .n) (tableIn levels cores policy xs .tasks) job
+      room
   unfolding listDone
   list-is job room a = list-by (foundDone job room) a
 

@@ -8,6 +8,7 @@
 -- Assumes nothing.
 use Prim.Native.Nat.{ℕ, _/_}
 use mathlib.Core.Path.{_≡_}
+use mathlib.Core.Bool.{Bool}
 use mathlib.Core.List.{List}
 use lib.ListN.{length}
 use Rattle.table.specs.declared.Table.{Table}
@@ -20,7 +21,8 @@ use Rattle.planner.specs.declared.Done.{Done}
 use Rattle.planner.specs.declared.Job.{Job}
 use Rattle.planner.specs.Done.{roomDone, unlessFaulty, planDone, listDone}
 use Rattle.words.specs.Word.{wordOfDone}
-use Rattle.flat.specs.Flat.{countIn, tasksIn, flatAfter}
+use Rattle.flat_tasks.specs.FlatTasks.{countIn, tasksIn}
+use Rattle.flat.specs.Flat.{flatAfter}
 use Rattle.loading.specs.declared.Loaded.{Loaded}
 use Rattle.loading.specs.Loaded.{LoadedAs}
 use Rattle.asked.specs.declared.Asked.{Asked}
@@ -53,6 +55,8 @@ pub record AskedAs (d : Done) (old : List ℕ) (r : Asked) (new : List ℕ) : Ty
 abbrev pub PlanAsked : Job → List ℕ → List ℕ → Asked → List ℕ → Type 0
 PlanAsked job text old r new = AskedAs (planDone text job (length old / 3)) old r new
 
-abbrev pub TasksAsked : Job → ℕ → ℕ → List ℕ → List ℕ → Asked → List ℕ → Type 0
-TasksAsked job cores policy xs old r new =
-    AskedAs (listDone cores policy (countIn (length xs)) (tasksIn xs) job (length old / 3)) old r new
+-- a task has five numbers where levels holds, else four
+abbrev pub TasksAsked : Bool → Job → ℕ → ℕ → List ℕ → List ℕ → Asked → List ℕ → Type 0
+TasksAsked levels job cores policy xs old r new =
+    AskedAs (listDone cores policy (countIn levels (length xs)) (tasksIn levels xs) job (length old / 3)) old
+    r new

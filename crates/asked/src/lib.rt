@@ -110,9 +110,16 @@ pub fn plan_asked(job: Job, text: &[u8], records: &mut [u32]) -> Asked
     }
 }
 
-// The job on cores, policy and a flat table.
-pub fn tasks_asked(job: Job, cores: u32, policy: u32, tasks: &[u32], records: &mut [u32]) -> Asked
-    ensures { λ r. ⌜ TasksAsked job cores policy (now (tasks .entry)) (now (records .entry)) r
+// The job on cores, policy and a flat table: five numbers to a task where the levels are given, else four.
+pub fn tasks_asked(
+    job: Job,
+    cores: u32,
+    policy: u32,
+    levels: bool,
+    tasks: &[u32],
+    records: &mut [u32],
+) -> Asked
+    ensures { λ r. ⌜ TasksAsked levels job cores policy (now (tasks .entry)) (now (records .entry)) r
         (now (records .exit)) ⌝ }
 {
     let room = records.len() / 3;
@@ -124,6 +131,7 @@ pub fn tasks_asked(job: Job, cores: u32, policy: u32, tasks: &[u32], records: &m
     let loaded = row_list::load_list(
         cores,
         policy,
+        levels,
         tasks,
         &mut inverse,
         &mut rest,

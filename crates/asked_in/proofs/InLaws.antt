@@ -2,6 +2,7 @@
 -- Assumes nothing.
 use Prim.Native.Nat.{ℕ, _≤_, _<_}
 use mathlib.Core.Path.{_≡_, ap, _∙_}
+use mathlib.Core.Bool.{Bool}
 use mathlib.Core.List.{List}
 use Rattle.table.specs.declared.Table.{Table}
 use Rattle.table.specs.declared.Refusal.{Refusal}
@@ -27,7 +28,8 @@ use Rattle.editions.proofs.StageLaws.{second-short, second-enough}
 use Rattle.flat.specs.Flat.{flatAfter}
 use Rattle.loading.specs.declared.Loaded.{Loaded}
 use Rattle.row_reader.specs.RowsRead.{PlanLoaded}
-use Rattle.row_list.specs.ListLoaded.{tableIn, ListLoaded}
+use Rattle.flat_tasks.specs.FlatTasks.{tableIn}
+use Rattle.row_list.specs.ListLoaded.{ListLoaded}
 use Rattle.asked.specs.Asked.{AnsweredBy, foundDone}
 use Rattle.asked.proofs.AskedLaws.{plan-by, list-by, few-said, asked-as}
 use Rattle.asked_in.specs.AskedIn.{foundSecond, foundIn, AskedAsIn}
@@ -67,14 +69,16 @@ module _ (text : List ℕ) {l : Loaded} {is rs cs js : List ℕ} (loaded : PlanL
   plan-found First job room a = plan-by text loaded (foundIn First job room) a
   plan-found Second job room a = plan-by text loaded (foundIn Second job room) a
 
-module _ (cores policy : ℕ) (xs : List ℕ) {l : Loaded} {is rs cs js : List ℕ}
-    (loaded : ListLoaded cores policy xs l is rs cs js) where
+module _ (levels : Bool) (cores policy : ℕ) (xs : List ℕ) {l : Loaded} {is rs cs js : List ℕ}
+    (loaded : ListLoaded levels cores policy xs l is rs cs js) where
   pub list-found : (e : Edition) (job : Job) (room : ℕ) {r : Rounded}
       → AnsweredBy (foundIn e job room) l is rs cs js r
-      → r ≡ listIn e cores policy (tableIn cores policy xs .n) (tableIn cores policy xs .tasks) job room
+      → r
+      ≡ listIn e cores policy (tableIn levels cores policy xs .n) (tableIn levels cores policy xs .tasks) job
+      room
   unfolding foundIn foundSecond listIn listSecond listDone
-  list-found First job room a = list-by cores policy xs loaded (foundIn First job room) a
-  list-found Second job room a = list-by cores policy xs loaded (foundIn Second job room) a
+  list-found First job room a = list-by levels cores policy xs loaded (foundIn First job room) a
+  list-found Second job room a = list-by levels cores policy xs loaded (foundIn Second job room) a
 
 -- an answer in parts, with its records written
 module _ (sent : Flags) (s : RoundsSaid) (bounds : List ℕ) {r : Rounded} {room : ℕ}

@@ -7,6 +7,7 @@
 -- Assumes nothing.
 use Prim.Native.Nat.{ℕ, _/_}
 use mathlib.Core.Path.{_≡_}
+use mathlib.Core.Bool.{Bool}
 use mathlib.Core.List.{List}
 use lib.ListN.{length}
 use Rattle.table.specs.declared.Table.{Table}
@@ -18,7 +19,7 @@ use Rattle.edition_2.specs.Second.{doneSecond, lastRounds, unrounded, rounded}
 use Rattle.editions.specs.declared.Edition.{Edition}
 use Rattle.editions.specs.declared.Edition.the-variants.{First, Second}
 use Rattle.editions.specs.Editions.{planIn, listIn}
-use Rattle.flat.specs.Flat.{countIn, tasksIn}
+use Rattle.flat_tasks.specs.FlatTasks.{countIn, tasksIn}
 use Rattle.asked.specs.Asked.{foundDone, AskedAs}
 use Rattle.asked_in.specs.declared.AskedIn.{AskedIn}
 
@@ -37,6 +38,8 @@ pub record AskedAsIn (r : Rounded) (old : List ℕ) (x : AskedIn) (new : List �
 abbrev pub PlanAskedIn : Edition → Job → List ℕ → List ℕ → AskedIn → List ℕ → Type 0
 PlanAskedIn e job text old x new = AskedAsIn (planIn e text job (length old / 3)) old x new
 
-abbrev pub TasksAskedIn : Edition → Job → ℕ → ℕ → List ℕ → List ℕ → AskedIn → List ℕ → Type 0
-TasksAskedIn e job cores policy xs old x new =
-    AskedAsIn (listIn e cores policy (countIn (length xs)) (tasksIn xs) job (length old / 3)) old x new
+-- a task has five numbers where levels holds, else four
+abbrev pub TasksAskedIn : Bool → Edition → Job → ℕ → ℕ → List ℕ → List ℕ → AskedIn → List ℕ → Type 0
+TasksAskedIn levels e job cores policy xs old x new =
+    AskedAsIn (listIn e cores policy (countIn levels (length xs)) (tasksIn levels xs) job (length old / 3))
+    old x new

@@ -128,17 +128,18 @@ pub fn plan_asked_in(edition: Edition, job: Job, text: &[u8], records: &mut [u32
     }
 }
 
-// The job on cores, policy and a flat table.
+// The job on cores, policy and a flat table: five numbers to a task where the levels are given, else four.
 pub fn tasks_asked_in(
     edition: Edition,
     job: Job,
     cores: u32,
     policy: u32,
+    levels: bool,
     tasks: &[u32],
     records: &mut [u32],
 ) -> AskedIn
-    ensures { λ r. ⌜ TasksAskedIn edition job cores policy (now (tasks .entry)) (now (records .entry)) r
-        (now (records .exit)) ⌝ }
+    ensures { λ r. ⌜ TasksAskedIn levels edition job cores policy (now (tasks .entry))
+        (now (records .entry)) r (now (records .exit)) ⌝ }
 {
     let room = records.len() / 3;
     let mut inverse = [0u64; 32];
@@ -149,6 +150,7 @@ pub fn tasks_asked_in(
     let loaded = row_list::load_list(
         cores,
         policy,
+        levels,
         tasks,
         &mut inverse,
         &mut rest,

@@ -6,7 +6,7 @@ ghost use lib.ListN.{length, replicate};
 ghost use Rattle.base.specs.Rows.{at};
 ghost use Rattle.table.specs.Table.{policyOf};
 ghost use Rattle.flags.specs.Flags.{flagIn};
-ghost use Rattle.rows.specs.Held.{higherAt};
+ghost use Rattle.rows.specs.Levels.{higherAt};
 ghost use Rattle.largest.specs.Largest.{Largest};
 ghost use Rattle.blocking.specs.Blocking.{blockIn};
 use flags::Flags;
@@ -23,8 +23,8 @@ pub fn keep_blocking<'a>(
     requires { ⌜ (head .n ≤ 32) × (k < head .n) × ((i : ℕ) → i < head .n → 1 ≤ at (now cost) i)
         × (now cap ≡ replicate 32 0) ⌝ }
     ensures { λ _. ⌜ (length (now (cap .exit)) ≡ 32)
-        × (Largest (blockIn (policyOf (head .policy)) higherAt (at (now (cost .entry))) (flagIn flags) k)
-        (at (now (cap .exit))) (head .cores) (head .n)) ⌝ }
+        × (Largest (blockIn (policyOf (head .policy)) (higherAt (head .levels)) (at (now (cost .entry)))
+        (flagIn flags) k) (at (now (cap .exit))) (head .cores) (head .n)) ⌝ }
 {
     if head.policy == 0 {
         return;
@@ -34,6 +34,6 @@ pub fn keep_blocking<'a>(
     }
     let n = head.n;
     let mut x = [0u32; 32];
-    candidates::candidates(n, cost, flags, k, &mut x);
+    candidates::candidates(n, head.levels, cost, flags, k, &mut x);
     largest::keep_largest(&x, head.cores, n, cap);
 }

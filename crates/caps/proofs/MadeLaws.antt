@@ -19,7 +19,8 @@ use Rattle.flags.specs.declared.Flags.{Flags}
 use Rattle.flags.specs.Flags.{flagIn}
 use Rattle.flags.proofs.FlagLaws.{flag-small}
 use Rattle.rows.specs.declared.Head.{Head}
-use Rattle.rows.specs.Held.{higherAt, systemIn, LegalRows}
+use Rattle.rows.specs.Levels.{higherAt}
+use Rattle.rows.specs.Held.{systemIn, LegalRows}
 use Rattle.rows.proofs.HeldLaws.{rows-legal}
 use Rattle.largest.specs.Largest.{Largest}
 use Rattle.blocking.specs.Blocking.{blockFor, blockIn}
@@ -81,7 +82,8 @@ module _ (s : System) (fl : ℕ → ℕ) (k : ℕ) (legal : Legal s) (inside : k
 
 module _ {h : Head} {inverse rest cost reach : List ℕ} (legal : LegalRows h inverse rest cost reach)
     (flags : Flags) (k : ℕ) (inside : k < h .n) {r : ℕ → ℕ}
-    (kept : Largest (blockIn (policyOf (h .policy)) higherAt (at cost) (flagIn flags) k) r (h .cores) (h .n))
+    (kept : Largest (blockIn (policyOf (h .policy)) (higherAt (h .levels)) (at cost) (flagIn flags) k) r
+    (h .cores) (h .n))
   where
     pub rows-kept : (i : ℕ) → i < h .n → r i ≤ 1000000
     unfolding blockIn
@@ -89,8 +91,8 @@ module _ {h : Head} {inverse rest cost reach : List ℕ} (legal : LegalRows h in
         omega (
           arith,
           kept .within i lt,
-          block-small (eqb i k) (policyOf (h .policy)) (flagIn flags k) (flagIn flags i) (higherAt k i)
-              (at cost i),
+          block-small (eqb i k) (policyOf (h .policy)) (flagIn flags k) (flagIn flags i)
+              (higherAt (h .levels) k i) (at cost i),
           legal .each i lt .period,
         )
 

@@ -34,7 +34,7 @@ fn add_caps<'a>(
     let mut i: usize = 0;
     while i < n {
         let fi = flags::flag_at(flags, i);
-        let high = rows::higher(k, i);
+        let high = rows::higher(head.levels, k, i);
         let most = cap_for::cap_for(head.policy, fk, fi, high, inverse[i], rest[i], cost[i], due);
         cap[i] = most + cap[i];
         i += 1;

@@ -2,7 +2,7 @@
 -- changed. Assumes nothing.
 use Prim.Native.Nat.{ℕ, _+_, _≤_, _<_}
 use native.Mathlib.Omega.{arith}
-use mathlib.Core.Path.{_≡_, refl, sym, ap, _∙_}
+use mathlib.Core.Path.{_≡_, refl, sym, ap, ap₂, _∙_}
 use mathlib.Core.List.{List}
 use lib.ListN.{set, replicate}
 use Rattle.base.specs.Rows.{at, row}
@@ -16,7 +16,8 @@ use Rattle.flags.specs.declared.Flags.{Flags}
 use Rattle.flags.specs.Flags.{flagIn, held}
 use Rattle.rows.specs.declared.Head.{Head}
 use Rattle.rows.specs.Held.{LegalRows, restOfTask, RowsOf}
-use Rattle.rows.proofs.HeldLaws.{rows-time, rows-deadline, table-rows}
+use Rattle.rows.specs.Levels.{levelIn}
+use Rattle.rows.proofs.HeldLaws.{rows-time, rows-deadline, rows-level, table-rows}
 use Rattle.forcing.proofs.TableLaws.{given-held}
 use Rattle.lines.specs.Reads.{readOf}
 use Rattle.lines.proofs.Theorems.{read-legal}
@@ -49,20 +50,30 @@ pub record Taking (h : Head) (rest cost reach : List ℕ) (flags : Flags) (tasks
     : Type 0 where
   pub times : Times (h .n) rest cost reach
   pub low : i ≤ h .n
-  pub filled : tasks ≡ row noTask (taskIn rest cost reach (flagIn flags)) i
+  pub filled : tasks ≡ row noTask (taskIn (h .levels) rest cost reach (flagIn flags)) i
 
 module _ {h : Head} {rest cost reach : List ℕ} (flags : Flags) where
   pub taking-start : Times (h .n) rest cost reach → Taking h rest cost reach flags (replicate 32 noTask) 0
   taking-start times = record { times = times; low = omega arith; filled = fill-start noTask _ }
 
   module _ {tasks : List Task} {i : ℕ} (w : Taking h rest cost reach flags tasks i) where
-    pub taking-step : {x : ℕ} → i < h .n → x ≡ flagIn flags i
-        → Taking h rest cost reach flags (set tasks i (taskIn rest cost reach (λ _. x) i)) (i + 1)
-    taking-step lt e = record {
+    -- a task of the rows, with a flag and a level
+    abbrev one-in : ℕ → ℕ → Task
+    one-in x y = record {
+      flag = x;
+      period = at rest i + at cost i;
+      cost = at cost i;
+      deadline = at reach i + at cost i;
+      level = y;
+    }
+
+    pub taking-step : {x y : ℕ} → i < h .n → x ≡ flagIn flags i → y ≡ levelIn (h .levels) i
+        → Taking h rest cost reach flags (set tasks i (one-in x y)) (i + 1)
+    taking-step lt e same = record {
       times = w .times;
       low = omega arith;
       filled = fill-step noTask _ (omega (arith, w .times .count)) (w .filled)
-          (ap (λ x. taskIn rest cost reach (λ _. x) i) e);
+          (ap₂ one-in e same);
     }
 
     pub taking-end : h .n ≤ i
@@ -88,11 +99,18 @@ module _ {t : Table} {inverse rest cost reach : List ℕ} {h : Head} (legal : Le
   held-table f =
       rw (is .cores, is .policy, is .n)
       (ap (λ (ts : List Task). record { cores = t .cores; policy = t .policy; n = t .n; tasks = ts })
-      (row-same noTask (taskIn rest cost reach f) (λ i. withFlag (taskAt (t .tasks) i) (f i)) (t .n)
-      (legal .count) one))
+      (row-same noTask (taskIn (h .levels) rest cost reach f) (λ i. withFlag (taskAt (t .tasks) i) (f i))
+      (t .n) (legal .count) one))
     where
-      one : (i : ℕ) → i < t .n → taskIn rest cost reach f i ≡ withFlag (taskAt (t .tasks) i) (f i)
-      one i lt = rw (held-period i lt, rows-deadline legal is i lt, rows-time legal is i lt)
+      one : (i : ℕ) → i < t .n
+          → taskIn (h .levels) rest cost reach f i ≡ withFlag (taskAt (t .tasks) i) (f i)
+      one i lt =
+          rw (
+            held-period i lt,
+            rows-deadline legal is i lt,
+            rows-time legal is i lt,
+            rows-level legal is i lt,
+          )
 
   -- forcing that accepts ends in the flags that are said
   module _ (sent : Flags) (s : Said) (bounds : List ℕ) (e : saidDone sent s bounds ≡ legalDone t Force) where

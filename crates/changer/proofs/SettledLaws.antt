@@ -5,7 +5,7 @@ use native.Mathlib.Omega.{arith}
 use mathlib.Core.Path.{_≡_, refl, sym, ap, ap₂, subst, fun-ext, _∙_}
 use mathlib.Core.Bool.{Bool, true, false}
 use mathlib.Core.List.{List}
-use lib.Dec.{ltb, eqb}
+use lib.Dec.{leb, ltb, eqb}
 use lib.ListN.{List·getD-eq-default}
 use borrow.Author.Tests.{ltb-true, ltb-false, eq-eqb}
 use Rattle.base.specs.Choice.{orElse}
@@ -20,11 +20,11 @@ use Rattle.model.proofs.DemandLaws.{forced-bounds, forced-falls}
 use Rattle.model.proofs.LowestLaws.{lowest-none, none-lowest}
 use Rattle.table.specs.declared.Task.{Task}
 use Rattle.table.specs.declared.Table.{Table}
-use Rattle.table.specs.Table.{noTask, taskAt, policyOf, systemOf, flagsOf, LegalTask, LegalTable}
+use Rattle.table.specs.Table.{noTask, taskAt, levelAt, policyOf, systemOf, flagsOf, LegalTask, LegalTable}
 use Rattle.table.specs.Checks.{refusal}
 use Rattle.table.proofs.TableLaws.{flags-at}
 use Rattle.flags.proofs.FlagLaws.{same-unchanged}
-use Rattle.lines.specs.Writes.{ZerosPast}
+use Rattle.lines.specs.Writes.{ZerosPast, PlaceLevels}
 use Rattle.planner.specs.declared.Record.{Record}
 use Rattle.planner.specs.Answers.{given, noRecord, entry, recordsOf, changes}
 use Rattle.planner.specs.Done.{finish, refuse, sent, tested, final, ended, failing, countForced}
@@ -32,9 +32,9 @@ use Rattle.planner.specs.Done.{testDone, forceDone}
 use Rattle.planner.proofs.StageLaws.{timed, flagged}
 use Rattle.changer.specs.Changed.{withFlag, withFlags, changedTable}
 
--- the system of a table, with these numbers of its tasks
-abbrev with-times : Table → (ℕ → ℕ) → (ℕ → ℕ) → (ℕ → ℕ) → System
-with-times t T C D = record {
+-- the system of a table, with these numbers and levels of its tasks
+abbrev with-times : Table → (ℕ → ℕ) → (ℕ → ℕ) → (ℕ → ℕ) → (ℕ → ℕ) → System
+with-times t T C D L = record {
   policy = policyOf (t .policy);
   cores = t .cores;
   count = t .n;
@@ -42,7 +42,7 @@ with-times t T C D = record {
   C = C;
   D = D;
   S = λ i. 0;
-  higher = λ k i. ltb i k;
+  higher = λ k i. leb (L i) (L k);
 }
 
 -- A table with other flags: what is at a place.
@@ -82,11 +82,22 @@ module _ (t : Table) (f : ℕ → ℕ) (small : t .n ≤ 32) where
   unfolding withFlags
   flags-system z =
       ap (λ T. with-times t T (λ i. taskAt (withFlags t f .tasks) i .cost)
-      (λ i. taskAt (withFlags t f .tasks) i .deadline)) (fun-ext (same-task (λ x. x .period) (λ x b. refl) z))
+      (λ i. taskAt (withFlags t f .tasks) i .deadline) (levelAt (withFlags t f)))
+      (fun-ext (same-task (λ x. x .period) (λ x b. refl) z))
       ∙ ap (λ C. with-times t (λ i. taskAt (t .tasks) i .period) C
-      (λ i. taskAt (withFlags t f .tasks) i .deadline)) (fun-ext (same-task (λ x. x .cost) (λ x b. refl) z))
-      ∙ ap (with-times t (λ i. taskAt (t .tasks) i .period) (λ i. taskAt (t .tasks) i .cost))
+      (λ i. taskAt (withFlags t f .tasks) i .deadline) (levelAt (withFlags t f)))
+      (fun-ext (same-task (λ x. x .cost) (λ x b. refl) z))
+      ∙ ap (λ D. with-times t (λ i. taskAt (t .tasks) i .period) (λ i. taskAt (t .tasks) i .cost) D
+      (levelAt (withFlags t f)))
       (fun-ext (same-task (λ x. x .deadline) (λ x b. refl) z))
+      ∙ ap (with-times t (λ i. taskAt (t .tasks) i .period) (λ i. taskAt (t .tasks) i .cost)
+      (λ i. taskAt (t .tasks) i .deadline))
+      (fun-ext (same-task (λ x. x .level) (λ x b. refl) z))
+
+  -- levels that are the places stay so
+  pub flags-levels : PlaceLevels t → PlaceLevels (withFlags t f)
+  unfolding withFlags
+  flags-levels levels i l = ap (λ (x : Task). x .level) (task-at i l) ∙ levels i l
 
 pub flags-legal : (t : Table) (f : ℕ → ℕ) → LegalTable t → ((i : ℕ) → i < t .n → f i ≤ 1)
     → LegalTable (withFlags t f)
@@ -106,6 +117,8 @@ flags-legal t f h one = record {
         deadline = x .deadline;
         cost = x .cost;
         some = x .some;
+        some-level = x .some-level;
+        level = x .level;
       });
 }
 

@@ -7,6 +7,7 @@
 --   forcing it forces nothing, in one pass, with the same bounds          force-back
 --   doing it again gives the same bytes                                   again-same
 --   it refuses as forcing does, then 16                                   refused-forcing, refused-full
+--   never 18 (Wish 8): a plan that is read has its places as levels       never-eighteen, in Eighteen
 --   a refusal writes nothing                                              refused-stays
 --   the end lies within the buffer                                        end-within
 --
@@ -100,10 +101,10 @@ changed-raised text old at r new = (subst by-reading same, subst by-reading (sym
     same = raised-read text
 
 -- A text that forcing accepts: its table, and what forcing says of it.
-record Sent (text : List ℕ) : Type 0 where
-  read : WrittenAs text (readOf text .table)
-  done : planDone text Force 32 ≡ legalDone (readOf text .table) Force
-  forces : Accepts (readOf text .table) (planDone text Force 32)
+pub record Sent (text : List ℕ) : Type 0 where
+  pub read : WrittenAs text (readOf text .table)
+  pub done : planDone text Force 32 ≡ legalDone (readOf text .table) Force
+  pub forces : Accepts (readOf text .table) (planDone text Force 32)
 
 read-fine : (text : List ℕ) {v : Verdict} → forced text .answer ≡ Given v → readOf text .answer ≡ Fine
 read-fine text {v} says = go (readOf text .answer) refl
@@ -117,7 +118,7 @@ read-fine text {v} says = go (readOf text .answer) refl
         in
         let z : _≡_ {A = ℕ} 0 1 = cc in omega arith)
 
-sent-by : (text : List ℕ) {v : Verdict} → planDone text Force 32 .answer ≡ Given v → Sent text
+pub sent-by : (text : List ℕ) {v : Verdict} → planDone text Force 32 .answer ≡ Given v → Sent text
 sent-by text says =
     let fine = read-fine text says in
     let t : Table = readOf text .table in
@@ -232,7 +233,7 @@ module _ (text old : List ℕ) (at e : ℕ) (new : List ℕ) (p : ChangedAs text
 
 -- Refusals.
 
-by-full : (w : Written) {why : Refusal} {passes : ℕ} → Refused why passes ≡ byWritten w → Full why ≡ w
+pub by-full : (w : Written) {why : Refusal} {passes : ℕ} → Refused why passes ≡ byWritten w → Full why ≡ w
 by-full (Ends x) q = absurd (not-end q)
 by-full (Full y) q = cc
 

@@ -33,7 +33,13 @@ use Rattle.changer.specs.declared.Changed.{Changed}
 use Rattle.changer.specs.declared.Changed.the-variants.{End, Refused}
 
 abbrev pub withFlag : Task → ℕ → Task
-withFlag x f = record { flag = f; period = x .period; cost = x .cost; deadline = x .deadline }
+withFlag x f = record {
+  flag = f;
+  period = x .period;
+  cost = x .cost;
+  deadline = x .deadline;
+  level = x .level;
+}
 
 unfoldable pub withFlags : Table → (ℕ → ℕ) → Table
 withFlags t f = record {

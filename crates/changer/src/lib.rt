@@ -41,6 +41,7 @@ fn with_flags(t: Table, recs: [Record; 32]) -> Table
             period: task.period,
             cost: task.cost,
             deadline: task.deadline,
+            level: task.level,
         };
         tasks[i] = one;
         i += 1;
@@ -103,15 +104,18 @@ fn table_in<'a>(
         (flagIn flags) ⌝ }
 {
     let n = head.n;
+    let levels = head.levels;
     let mut tasks = [NO_TASK; 32];
     let mut i: usize = 0;
     while i < n {
         let time = cost[i];
+        let level = rows::level_at(levels, i);
         let one = Task {
             flag: flags::flag_at(flags, i),
             period: rest[i] + time,
             cost: time,
             deadline: reach[i] + time,
+            level: level,
         };
         tasks[i] = one;
         i += 1;

@@ -1,28 +1,33 @@
 -- The work behind demand 1: every call has exactly one answer, by what it sends or by its first fault; a plan
 -- has the same in either case of its letters.
 -- Assumes nothing.
-use Prim.Native.Nat.{ℕ, _≤_, _<_}
-use mathlib.Core.Path.{_≡_, refl, sym, ap, subst, _∙_}
-use mathlib.Core.Logic.{_↔_}
+use Prim.Native.Nat.{ℕ, _≤_, _<_, min}
+use native.Mathlib.Omega.{arith}
+use mathlib.Core.Path.{_≡_, refl, sym, ap, ap₂, subst, _∙_}
+use mathlib.Core.Logic.{_⊎_, _↔_, ⊎-elim}
 use mathlib.Core.List.{List}
-use lib.ListN.{length}
+use lib.ListN.{length, take, replicate}
+use lib.Seq.{length-take-le, getD-take, ext-getD}
+use Rattle.base.proofs.OrderLaws.{le-or-lt}
+use Rattle.table.specs.declared.Task.{Task}
 use Rattle.table.specs.declared.Table.{Table}
-use Rattle.table.specs.Table.{LegalTable}
+use Rattle.table.specs.Table.{noTask, taskAt, LegalTable}
 use Rattle.table.specs.Faults.{Within}
 use Rattle.frames.specs.Digits.{raised}
-use Rattle.lines.specs.Writes.{ZerosPast, planText}
+use Rattle.lines.specs.Writes.{ZerosPast, PlaceLevels, planText}
 use Rattle.lines.proofs.Theorems.{reading-exact, text-accepted}
 use Rattle.lines.proofs.Letters.{raised-read}
 use Rattle.planner.specs.declared.Answer.{Answer}
 use Rattle.planner.specs.declared.Job.{Job}
 use Rattle.planner.specs.declared.Record.{Record}
 use Rattle.planner.specs.Answers.{refused, recordAt}
-use Rattle.planner.specs.Done.{planDone, listAfter}
-use Rattle.planner.specs.Calls.{Call, plan, Allows, Answered, Sends, by-text, Faulty}
-use Rattle.planner.specs.Calls.{doneOf}
+use Rattle.planner.specs.Done.{planDone, tableFrom, loaded, listAfter}
+use Rattle.planner.specs.Calls.{Call, plan, tasks, Allows, Answered, Sends, by-text, by-list, Faulty}
+use Rattle.planner.specs.Calls.{doneOf, listTable}
 use Rattle.planner.specs.Ways.{Verdicts, Way, faulty, full}
 use Rattle.planner.proofs.ValueLaws as values
 use Rattle.planner.proofs.WayLaws.{answer-exact, sends-verdict}
+use Rattle.planner.proofs.JoinLaws.{join-front, loaded-length, loaded-past}
 use Rattle.planner.proofs.AfterLaws.{refusal-after, length-after, rest-after}
 use Rattle.entries.proofs.Unique.{answered-only}
 use Rattle.claims.specs.Words.{One, Asks}
@@ -41,9 +46,42 @@ pub verdict : {c : Call} {t : Table} {old : List Record} → Asks c t old → {j
 verdict {t = t} {old = old} s {job} h =
     subst (Verdicts t job) (sym (h .0)) (sends-verdict (s .sends) job (length old) (s .room))
 
--- every legal table can be sent as a text
-pub legal-sent : (t : Table) → LegalTable t → ZerosPast t → Sends (plan (planText t)) t
-legal-sent t legal zeros = by-text (reading-exact (planText t) t .0 (text-accepted t legal zeros))
+-- a legal table whose levels are its places can be sent as a text
+pub legal-sent : (t : Table) → LegalTable t → ZerosPast t → PlaceLevels t → Sends (plan (planText t)) t
+legal-sent t legal zeros placed =
+    by-text (reading-exact (planText t) t .0 (text-accepted t legal zeros placed))
+
+-- and every legal table as a list of its tasks
+own-list : (t : Table) → LegalTable t → ZerosPast t
+    → listTable (t .cores) (t .policy) (take (t .n) (t .tasks)) ≡ t
+unfolding loaded
+own-list t legal zeros = ap₂ (λ n ts. tableFrom (t .cores) (t .policy) n ts) count tasks-are
+  where
+    own : List Task
+    own = take (t .n) (t .tasks)
+
+    count : length own ≡ t .n
+    count = length-take-le (t .n) (t .tasks) (omega (arith, zeros .places, legal .count))
+
+    at-place : (i : ℕ) → taskAt (loaded own) i ≡ taskAt (t .tasks) i
+    at-place i =
+        ⊎-elim (λ (far : t .n ≤ i). loaded-past own i (omega (arith, count)) ∙ sym (zeros .zeros i far))
+        (λ (near : i < t .n).
+        join-front (min (length own) 32) own (replicate 32 noTask) (omega arith) noTask i
+        (omega (arith, count, legal .count))
+        ∙ getD-take (t .n) (t .tasks) i noTask near)
+        (le-or-lt (t .n) i)
+
+    tasks-are : loaded own ≡ t .tasks
+    tasks-are =
+        ext-getD noTask (loaded own) (t .tasks) (loaded-length own ∙ sym (zeros .places)) (λ i _. at-place i)
+
+pub legal-listed : (t : Table) → LegalTable t → ZerosPast t
+    → Sends (tasks (t .cores) (t .policy) (take (t .n) (t .tasks))) t
+legal-listed t legal zeros =
+    let same = own-list t legal zeros in
+    subst (Sends (tasks (t .cores) (t .policy) (take (t .n) (t .tasks)))) same
+    (by-list (t .cores) (t .policy) (take (t .n) (t .tasks)) (subst LegalTable (sym same) legal))
 
 -- a text that is raised is answered as the text is
 raised-done : (text : List ℕ) (job : Job) (room : ℕ)
@@ -81,5 +119,6 @@ pub refusal-keeps : (c : Call) (job : Job) (old : List Record) {number place pas
 refusal-keeps c job old h = h .1 ∙ refusal-after c job (length old) (sym (h .0)) old
 
 pub refusal-numbered : (c : Call) (job : Job) (old : List Record) {number place passes : ℕ}
-    {new : List Record} → Answered c job old (refused number place passes) new → Within 1 14 number
+    {new : List Record} → Answered c job old (refused number place passes) new
+    → Within 1 14 number ⊎ (number ≡ 17)
 refusal-numbered c job old h = values.refusal-numbered (way c job old h)

@@ -1,13 +1,15 @@
 -- The front page: the three demands of the order, what a yes means, and document 01's own tests of a planner,
 -- each sentence beside its theorem. What is proved here is proved of every result that the promise `Answered`
--- of run_plan and run_tasks allows. The words: specs/Words, specs/Results, specs/Algorithm2. Assumes nothing.
+-- of run_plan and run_tasks allows. Under FP a task counts as higher by its level: `systemOf` of the crate
+-- `table`, and the page of `claims_levels`. The words: specs/Words, specs/Results, specs/Algorithm2.
+-- Assumes nothing.
 use Prim.Native.Nat.{ℕ, _+_, _≤_, _<_}
 use mathlib.Core.Path.{_≡_}
 use mathlib.Core.Bool.{true, false}
 use mathlib.Core.Logic.{_⊎_, _↔_}
 use mathlib.Core.List.{List}
 use lib.Dec.{T}
-use lib.ListN.{length}
+use lib.ListN.{length, take}
 use Rattle.base.specs.Rows.{at}
 use Rattle.model.specs.Bound.{bound}
 use Rattle.model.specs.Demands.{Passes, Settled, Holds, Step, Steps, stepCount}
@@ -26,23 +28,24 @@ use Rattle.frames.proofs.DigitLaws as digits
 use Rattle.lines.specs.Form.{form1}
 use Rattle.lines.specs.Fields.{taskText}
 use Rattle.lines.specs.Reads.{numberOf, placeOf, accepted, refused as unread, readOf}
-use Rattle.lines.specs.Writes.{ZerosPast, WrittenAs, planText}
+use Rattle.lines.specs.Writes.{ZerosPast, PlaceLevels, WrittenAs, planText}
 use Rattle.lines.specs.Wrong.{RightUpTo, textCount}
 use Rattle.lines.proofs.Theorems as lines
 use Rattle.lines.proofs.Letters as letters
+use Rattle.levels.specs.Levels.{SameSystem}
 use Rattle.planner.specs.declared.Answer.{Answer}
 use Rattle.planner.specs.declared.Job.{Job}
 use Rattle.planner.specs.declared.Job.the-variants.{Test, Force}
 use Rattle.planner.specs.declared.Record.{Record}
 use Rattle.planner.specs.Answers.{given, refused, recordAt, valuesOf}
-use Rattle.planner.specs.Calls.{Call, plan, Answered, Sends, Faulty}
+use Rattle.planner.specs.Calls.{Call, plan, tasks, Answered, Sends, Faulty}
 use Rattle.planner.specs.Ways.{Verdicts}
 use Rattle.planner.proofs.CallLaws as calls
 use Rattle.claims.specs.Words.{One, Asks, flagsIn, boundsIn, preemptive, Ends, Agree}
 use Rattle.claims.specs.Algorithm2.{Outcome, schedulable, Algorithm2}
 use Rattle.claims.specs.Results.{values, Accepts, Refuses14, Tested, Forced, GivenOut, Fourteen}
 use Rattle.claims.specs.Below.{DifferBelow}
-use Rattle.claims.specs.Meaning.{pairTable, SameSystem, fullRelease, fullNeed}
+use Rattle.claims.specs.Meaning.{pairTable, fullRelease, fullNeed}
 use Rattle.claims.specs.Cases.{Case, cases, wrongCases, every, noneOf, right, caseAt}
 use Rattle.claims.specs.Wrong.{Forcer, MeetsPromise, AlwaysRefuses, OneAnswer, WritesNothing}
 use Rattle.claims.specs.Wrong.{CopiesBounds, ForcesAll, MadeUpPasses}
@@ -58,7 +61,8 @@ use Rattle.claims.proofs.Wrong as wrong
 pub one-answer : (c : Call) (job : Job) (old : List Record) → One (Answered c job old)
 one-answer = one.one-answer
 
--- It sends a legal table or has a first fault, and never both; and every legal table can be sent.
+-- It sends a legal table or has a first fault, and never both; and every legal table can be sent: as a list
+-- of its tasks, and as a text where its levels are its places.
 pub legal-or-faulty : (c : Call) → ((t : Table) × Sends c t) ⊎ ((f : ℕ) × ((p : ℕ) × Faulty c f p))
 legal-or-faulty = calls.call-cases
 
@@ -68,7 +72,11 @@ never-both c t f p = calls.call-not-both
 pub sent-is-legal : (c : Call) (t : Table) → Sends c t → LegalTable t
 sent-is-legal c t = calls.sends-legal
 
-pub legal-is-sent : (t : Table) → LegalTable t → ZerosPast t → Sends (plan (planText t)) t
+pub legal-is-listed : (t : Table) → LegalTable t → ZerosPast t
+    → Sends (tasks (t .cores) (t .policy) (take (t .n) (t .tasks))) t
+legal-is-listed = one.legal-listed
+
+pub legal-is-sent : (t : Table) → LegalTable t → ZerosPast t → PlaceLevels t → Sends (plan (planText t)) t
 legal-is-sent = one.legal-sent
 
 -- A legal table, with room for its records, is tested or forced ..
@@ -86,7 +94,8 @@ pub room-refused : (c : Call) (t : Table) → Sends c t → (job : Job) (old : L
 room-refused c t s job old small a new h = one.room-refused c job old h s small
 
 pub refusal-numbered : (c : Call) (job : Job) (old : List Record) (number place passes : ℕ)
-    (new : List Record) → Answered c job old (refused number place passes) new → Within 1 14 number
+    (new : List Record) → Answered c job old (refused number place passes) new
+    → Within 1 14 number ⊎ (number ≡ 17)
 refusal-numbered c job old number place passes new = one.refusal-numbered c job old
 
 -- A refusal changes nothing in the caller's list; records past the n-th keep their contents in any case.
@@ -186,10 +195,10 @@ pub full-asked : Asked (systemOf (pairTable 12 1)) (fullRelease (pairTable 12 1)
 full-asked = meaning.full-asked
 
 -- DOCUMENT 01. Under FP, with the same cores, two tables that differ only in lower-priority preemptive tasks
--- give a task the same bound.
-pub same-bound : (t u : Table) (k : ℕ) → LegalTable t → DifferBelow t u k
-    → bound (systemOf t) (at (flagsOf t)) k ≡ bound (systemOf u) (at (flagsOf u)) k
-same-bound t u k legal d = lower.same-bound d legal
+-- give a task the same bound. Lower is a greater level.
+pub same-bound : (t u : Table) (k j : ℕ) → LegalTable t → DifferBelow t u k j
+    → bound (systemOf t) (at (flagsOf t)) k ≡ bound (systemOf u) (at (flagsOf u)) j
+same-bound t u k j legal d = lower.same-bound d legal
 
 -- DOCUMENT 02, WISH 2. No load of a table that is sent is below the exact one, nor is their total; and no
 -- smaller load would do.

@@ -1,5 +1,5 @@
--- What may hurt, over calls: see specs/NeverHurts.antt for what is refuted. A legal table is sent by its own
--- text, so that a claim over calls would be one over tables, and `easier` has tables that refute it.
+-- What may hurt, over calls: see specs/NeverHurts.antt for what is refuted. A legal table is sent as a list
+-- of its tasks, so that a claim over calls would be one over tables, and `easier` has tables that refute it.
 -- Assumes nothing.
 use Prim.Native.Nat.{_≤_, _<_}
 use native.Mathlib.Omega.{arith}
@@ -7,7 +7,7 @@ use mathlib.Core.Path.{refl, sym, ap, _∙_}
 use mathlib.Core.Bool.{true}
 use mathlib.Core.Logic.{⊎-elim}
 use mathlib.Core.List.{List}
-use lib.ListN.{length, replicate, List·getD-eq-default}
+use lib.ListN.{length, take, replicate, List·getD-eq-default}
 use Rattle.base.specs.Sums.{sumTo, topTo}
 use Rattle.base.specs.Least.{least, firstFrom}
 use Rattle.base.specs.Rows.{listFrom, row}
@@ -19,8 +19,7 @@ use Rattle.model.specs.Forcing.{test, lowest, lacks, lacking, made, run, force}
 use Rattle.table.specs.declared.Table.{Table}
 use Rattle.table.specs.Table.{noTask, taskAt, flagsOf, LegalTable}
 use Rattle.flags.specs.Flags.{changed}
-use Rattle.lines.specs.Writes.{planText, ZerosPast}
-use Rattle.lines.proofs.Theorems.{text-accepted, reading-exact}
+use Rattle.lines.specs.Writes.{ZerosPast}
 use Rattle.easier.specs.TableWords.{Accepted}
 use Rattle.may_hurt.specs.MayHurt.{Bare}
 use Rattle.easier.proofs.TableLaws.{table-eased}
@@ -31,14 +30,18 @@ use Rattle.planner.specs.declared.Record.{Record}
 use Rattle.planner.specs.Answers.{given, noRecord}
 use Rattle.planner.specs.Done.{final, countForced, testDone, forceDone, legalDone, loaded}
 use Rattle.planner.specs.Done.{listAfter}
-use Rattle.planner.specs.Calls.{plan, doneOf, Sends, by-text}
+use Rattle.planner.specs.Calls.{Call, tasks, doneOf, Sends}
 use Rattle.planner.proofs.CallLaws.{sends-legal}
 use Rattle.planner.proofs.LegalLaws.{verdict-legal}
 use Rattle.claims.specs.NeverHurts.{Heard, LongerStaysYes, ShorterStaysYes, PassesNeverRise}
 use Rattle.claims.specs.NeverHurts.{BoundsNeverRise, ShorterHelps}
+use Rattle.claims.proofs.Demand1.{legal-listed}
 use Rattle.claims.proofs.NeverHurts.{accepted-yes, yes-accepted, heard-verdict, bound-is}
 
--- A legal table with nothing past its last task is sent by its own text.
+-- A legal table with nothing past its last task is sent as the list of its tasks.
+abbrev call : Table → Call
+call t = tasks (t .cores) (t .policy) (take (t .n) (t .tasks))
+
 module _ {t : Table} (legal : LegalTable t) (bare : Bare t) where
   zeros-past : ZerosPast t
   zeros-past = record {
@@ -52,27 +55,27 @@ module _ {t : Table} (legal : LegalTable t) (bare : Bare t) where
         (λ (near : i < 32). row-past noTask (taskAt (t .tasks)) (t .n) i l near) (le-or-lt 32 i);
   }
 
-  own-text : Sends (plan (planText t)) t
-  own-text = by-text (reading-exact (planText t) t .0 (text-accepted t legal zeros-past))
+  own-call : Sends (call t) t
+  own-call = legal-listed t legal zeros-past
 
 -- a list of 32 records, and what forcing leaves of it
 abbrev lent : List Record
 lent = replicate 32 noRecord
 
 abbrev done : Table → Done
-done t = doneOf (plan (planText t)) Force (length lent)
+done t = doneOf (call t) Force (length lent)
 
 abbrev left : Table → List Record
 left t = listAfter (done t) lent
 
 module _ {t : Table} (legal : LegalTable t) (bare : Bare t) where
-  hears : Heard Force (plan (planText t)) t lent (done t .answer) (left t)
-  hears = record { sends = own-text legal bare; room = legal .count; answered = (refl, refl) }
+  hears : Heard Force (call t) t lent (done t .answer) (left t)
+  hears = record { sends = own-call legal bare; room = legal .count; answered = (refl, refl) }
 
   hears-yes : Accepted t
-      → Heard Force (plan (planText t)) t lent (given true (countForced t) (final t .passes)) (left t)
+      → Heard Force (call t) t lent (given true (countForced t) (final t .passes)) (left t)
   hears-yes ok = record {
-    sends = own-text legal bare;
+    sends = own-call legal bare;
     room = legal .count;
     answered = (sym (accepted-yes legal ok (heard-verdict hears)), refl);
   }

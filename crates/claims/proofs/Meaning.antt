@@ -2,23 +2,27 @@
 -- in every schedule by the rules, and such schedules exist for exactly what may be asked. Assumes nothing.
 use Prim.Native.Nat.{ℕ, zero, suc, _+_, _≤_, _<_}
 use native.Mathlib.Omega.{arith}
-use mathlib.Core.Path.{_≡_, refl, sym, _∙_}
+use native.Mathlib.Nat.{le-of-eq, le-antisymm}
+use mathlib.Core.Path.{_≡_, refl, sym, ap, _∙_}
 use mathlib.Core.Bool.{Bool, true, false}
-use mathlib.Core.Logic.{_↔_}
+use mathlib.Core.Logic.{_↔_, inr}
 use mathlib.Core.List.{List}
 use lib.Dec.{eqb}
-use borrow.Author.Tests.{eqb-true, eqb-false, ltb-true}
-use Rattle.model.specs.Bound.{System, Legal, bound}
+use borrow.Author.Tests.{eqb-true, eqb-false, leb-true, le-leb}
+use Rattle.model.specs.Bound.{System, bound}
 use Rattle.model.specs.Demands.{Passes}
 use Rattle.schedule.specs.Schedule.{Follows}
 use Rattle.schedule.specs.Promise.{Promise, Asked}
 use Rattle.schedule.specs.Example.{caseB}
 use Rattle.schedule.specs.OneByOne.{NoneBelow}
 use Rattle.schedule.proofs.Sound.{sound-passing}
-use Rattle.schedule.proofs.Existence.{schedules, by-place}
+use Rattle.schedule.proofs.Existence.{schedules, by-level}
 use Rattle.schedule.proofs.CaseB.{two}
 use Rattle.table.specs.declared.Table.{Table}
-use Rattle.table.specs.Table.{LegalTable, systemOf}
+use Rattle.table.specs.Table.{LegalTable, levelAt, systemOf}
+use Rattle.table.proofs.TableLaws.{legal-system}
+use Rattle.lines.specs.Writes.{PlaceLevels}
+use Rattle.levels.specs.Levels.{SameSystem}
 use Rattle.planner.specs.declared.Job.{Job}
 use Rattle.planner.specs.declared.Job.the-variants.{Test, Force}
 use Rattle.planner.specs.declared.Record.{Record}
@@ -29,18 +33,10 @@ use Rattle.planner.specs.Ways.{Verdicts, tested-yes}
 use Rattle.planner.proofs.CallLaws.{sends-legal}
 use Rattle.model.proofs.BoundLaws.{bound-same}
 use Rattle.claims.specs.Words.{Asks, flagsIn, boundsIn}
-use Rattle.claims.specs.Meaning.{pairTable, SameSystem, fullRelease, fullNeed}
+use Rattle.claims.specs.Meaning.{pairTable, fullRelease, fullNeed}
 use Rattle.claims.proofs.Demand1.{verdict}
 use Rattle.claims.proofs.Demand2.{tested-flag, tested-bound, forced-bound}
 use Rattle.claims.proofs.Demand3.{passes-same, given-out}
-
-pub legal-system : {t : Table} → LegalTable t → Legal (systemOf t)
-legal-system legal = record {
-  cores = legal .some-core;
-  time = λ i l. legal .each i l .some;
-  short = λ i l. legal .each i l .cost;
-  period = λ i l. legal .each i l .deadline;
-}
 
 -- a promise speaks of the numbers of the table's own tasks alone
 pub promise-same : (s : System) (fl R R′ : ℕ → ℕ) → ((k : ℕ) → k < s .count → R′ k ≡ R k) → Promise s fl R
@@ -70,14 +66,15 @@ yes-means {t = t} s Test {new = new} h =
 yes-means s Force {new = new} h =
     kept (sends-legal (s .sends)) new (given-out s h .passes) (forced-bound s h)
 
--- a schedule by the rules exists for exactly what may be asked
+-- a schedule by the rules exists for exactly what may be asked, whatever the levels
 pub schedule-exactly : {t : Table} → LegalTable t → (fl : ℕ → ℕ) (release need : ℕ → ℕ → ℕ)
     → ((runs : ℕ → ℕ → ℕ → ℕ)
     × Follows (systemOf t) fl (record { release = release; need = need; runs = runs }))
     ↔ Asked (systemOf t) release need
 schedule-exactly {t} legal fl release need = (
   λ x. record { within = x .1 .basic .within; apart = x .1 .basic .apart },
-  schedules (systemOf t) fl (λ i. i) release need (legal-system legal) (by-place (systemOf t) (λ k i. refl)),
+  schedules (systemOf t) fl (levelAt t) release need (legal-system legal)
+      (by-level (systemOf t) (levelAt t) (λ k i. refl)),
 )
 
 -- case b of the crate `schedule` is document 01's, as the planner takes it
@@ -87,11 +84,18 @@ case-b-table = record {
   policy = refl;
   cores = refl;
   count = refl;
-  T = two (λ i. caseB .T i ≡ systemOf (pairTable 12 1) .T i) refl refl;
-  C = two (λ i. caseB .C i ≡ systemOf (pairTable 12 1) .C i) refl refl;
-  D = two (λ i. caseB .D i ≡ systemOf (pairTable 12 1) .D i) refl refl;
-  S = λ i _. refl;
-  higher = λ k i. refl;
+  T = two (λ i. systemOf (pairTable 12 1) .T i ≡ caseB .T i) refl refl;
+  C = two (λ i. systemOf (pairTable 12 1) .C i ≡ caseB .C i) refl refl;
+  D = two (λ i. systemOf (pairTable 12 1) .D i ≡ caseB .D i) refl refl;
+  S = refl;
+  higher =
+      inr (λ k i lk li.
+      two (λ k. (i : ℕ) → i < 2 → (i ≡ k → ⊥) → systemOf (pairTable 12 1) .higher k i ≡ caseB .higher k i)
+      (two (λ i. (i ≡ 0 → ⊥) → systemOf (pairTable 12 1) .higher 0 i ≡ caseB .higher 0 i)
+      (λ ne. absurd (ne refl)) (λ _. refl))
+      (two (λ i. (i ≡ 1 → ⊥) → systemOf (pairTable 12 1) .higher 1 i ≡ caseB .higher 1 i) (λ _. refl)
+      (λ ne. absurd (ne refl)))
+      k lk i li);
 }
 
 -- every job may need its whole C, and gaps may differ
@@ -115,20 +119,28 @@ full-asked = record {
     second zero = omega arith
     second (suc j) = omega arith
 
--- with places as priorities, "no N below an N" is "at most one N"
-pub at-most-one : (t : Table) (fl : ℕ → ℕ)
+-- "no N below an N" is "all N on one level"
+pub one-level : (t : Table) (fl : ℕ → ℕ)
     → NoneBelow (systemOf t) fl
-    ↔ ((k i : ℕ) → k < t .n → i < t .n → fl k ≡ 0 → fl i ≡ 0 → i ≡ k)
-at-most-one t fl = (
+    ↔ ((k i : ℕ) → k < t .n → i < t .n → fl k ≡ 0 → fl i ≡ 0 → levelAt t i ≡ levelAt t k)
+one-level t fl = (
   λ none k i lk li ok oi. go none k i lk li ok oi (eqb i k) refl,
-  λ one k i lk li ne ok oi. absurd (ne (one k i lk li ok oi)),
+  λ one k i lk li ne ok oi. le-leb (levelAt t i) (levelAt t k) (le-of-eq (one k i lk li ok oi)),
 )
   where
     go : NoneBelow (systemOf t) fl → (k i : ℕ) → k < t .n → i < t .n → fl k ≡ 0 → fl i ≡ 0 → (b : Bool)
-        → eqb i k ≡ b → i ≡ k
-    go none k i lk li ok oi true e = eqb-true i k e
+        → eqb i k ≡ b → levelAt t i ≡ levelAt t k
+    go none k i lk li ok oi true e = ap (levelAt t) (eqb-true i k e)
     go none k i lk li ok oi false e =
         let ne : i ≡ k → ⊥ = eqb-false i k e in
-        let below : i < k = ltb-true i k (none k i lk li ne ok oi) in
-        let above : k < i = ltb-true k i (none i k li lk (λ z. ne (sym z)) oi ok) in
-        absurd (let z : ⊥ = omega arith in z)
+        le-antisymm (leb-true (levelAt t i) (levelAt t k) (none k i lk li ne ok oi))
+        (leb-true (levelAt t k) (levelAt t i) (none i k li lk (λ z. ne (sym z)) oi ok))
+
+-- with places as levels it is "at most one N"
+pub at-most-one : (t : Table) (fl : ℕ → ℕ) → PlaceLevels t
+    → NoneBelow (systemOf t) fl
+    ↔ ((k i : ℕ) → k < t .n → i < t .n → fl k ≡ 0 → fl i ≡ 0 → i ≡ k)
+at-most-one t fl p = (
+  λ none k i lk li ok oi. omega (arith, one-level t fl .0 none k i lk li ok oi, p i li, p k lk),
+  λ one k i lk li ne ok oi. absurd (ne (one k i lk li ok oi)),
+)

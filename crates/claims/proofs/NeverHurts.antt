@@ -18,13 +18,13 @@ use Rattle.model.specs.Demands.{Passes}
 use Rattle.model.proofs.BoundLaws.{bound-same}
 use Rattle.model.proofs.DemandLaws.{forced-falls, accepted-passes}
 use Rattle.table.specs.declared.Table.{Table}
-use Rattle.table.specs.Table.{taskAt, policyOf, systemOf, flagsOf, LegalTable}
-use Rattle.table.proofs.TableLaws.{flags-at}
+use Rattle.table.specs.Table.{taskAt, levelAt, policyOf, systemOf, flagsOf, LegalTable}
+use Rattle.table.proofs.TableLaws.{flags-at, legal-system}
 use Rattle.flags.specs.Flags.{changed}
 use Rattle.easier.specs.Eased.{Eased, forcedCount}
 use Rattle.easier.specs.TableWords.{Accepted, UnharmedTable}
 use Rattle.easier.proofs.EasedLaws.{eased-bounds}
-use Rattle.easier.proofs.TableLaws.{legal-system, table-eased, table-shortened, table-edf}
+use Rattle.easier.proofs.TableLaws.{table-eased, table-shortened, table-edf}
 use Rattle.planner.specs.declared.Answer.{Answer}
 use Rattle.planner.specs.declared.Job.{Job}
 use Rattle.planner.specs.declared.Job.the-variants.{Test, Force}
@@ -144,8 +144,8 @@ same-eased : (t u : Table) → LegalTable u → u .policy ≡ t .policy → u .c
     → ((i : ℕ) → i < u .n → taskAt (u .tasks) i .period ≡ taskAt (t .tasks) i .period)
     → ((i : ℕ) → i < u .n → taskAt (u .tasks) i .cost ≡ taskAt (t .tasks) i .cost)
     → ((i : ℕ) → i < u .n → taskAt (u .tasks) i .deadline ≡ taskAt (t .tasks) i .deadline)
-    → Eased (systemOf t) (systemOf u) (λ i. i)
-same-eased t u legal policy cores count period cost deadline = record {
+    → ((i : ℕ) → i < u .n → levelAt u i ≡ levelAt t i) → Eased (systemOf t) (systemOf u) (λ i. i)
+same-eased t u legal policy cores count period cost deadline level = record {
   policy = ap policyOf policy;
   cores = omega arith;
   inside = λ i l. omega arith;
@@ -155,7 +155,7 @@ same-eased t u legal policy cores count period cost deadline = record {
   some = λ i l. legal .each i l .some;
   D = deadline;
   S = λ i _. le-refl 0;
-  higher = inr (λ k i _ _. refl);
+  higher = inr (λ k i lk li. cc (level k lk, level i li));
 }
 
 module _ {t u : Table} (before : LegalTable t) (after : LegalTable u) (all : AllFixed t u) where
@@ -168,6 +168,7 @@ module _ {t u : Table} (before : LegalTable t) (after : LegalTable u) (all : All
       (λ i l. ap (λ a. a .period) (all .tasks i (omega (arith, all .count))))
       (λ i l. ap (λ a. a .cost) (all .tasks i (omega (arith, all .count))))
       (λ i l. ap (λ a. a .deadline) (all .tasks i (omega (arith, all .count))))
+      (λ i l. ap (λ a. a .level) (all .tasks i (omega (arith, all .count))))
 
   back : Eased (systemOf u) (systemOf t) (λ i. i)
   back =
@@ -175,6 +176,7 @@ module _ {t u : Table} (before : LegalTable t) (after : LegalTable u) (all : All
       (λ i l. sym (ap (λ a. a .period) (all .tasks i l)))
       (λ i l. sym (ap (λ a. a .cost) (all .tasks i l)))
       (λ i l. sym (ap (λ a. a .deadline) (all .tasks i l)))
+      (λ i l. sym (ap (λ a. a .level) (all .tasks i l)))
 
   fixed-passes : Passes (systemOf t) (λ _. 0) → Passes (systemOf u) (sent u)
   fixed-passes pass k l =

@@ -22,9 +22,9 @@ use Rattle.planner.specs.declared.Job.{Job}
 use Rattle.planner.specs.declared.Job.the-variants.{Test, Force}
 use Rattle.planner.specs.Calls.{Call, plan, tasks, doneOf}
 
--- (T, C, D, flag), with 1 for P and 0 for N
-abbrev pub task : ℕ → ℕ → ℕ → ℕ → Task
-task t c d f = record { flag = f; period = t; cost = c; deadline = d }
+-- (T, C, D, flag, level), with 1 for P and 0 for N; in document 01's cases the level is the place
+abbrev pub task : ℕ → ℕ → ℕ → ℕ → ℕ → Task
+task t c d f l = record { flag = f; period = t; cost = c; deadline = d; level = l }
 
 -- a call on a list that has room for 32 records; 0 among the bounds stands for none
 pub record Case : Type 0 where
@@ -48,13 +48,13 @@ forceCase c a bs = record { call = c; job = Force; answer = a; bounds = bs }
 
 -- one core, FP, as in a; D of task 1 and the flag of task 2 are parameters of c and d
 abbrev pub pair : ℕ → ℕ → ℕ → Call
-pair policy d f = tasks 1 policy (task 12 4 d 1 ∷ task 24 9 18 f ∷ [])
+pair policy d f = tasks 1 policy (task 12 4 d 1 1 ∷ task 24 9 18 f 2 ∷ [])
 
 abbrev pub triple : ℕ → ℕ → Call
-triple cores d = tasks cores 1 (task 10 4 10 1 ∷ task 10 4 10 1 ∷ task 20 8 d 1 ∷ [])
+triple cores d = tasks cores 1 (task 10 4 10 1 1 ∷ task 10 4 10 1 2 ∷ task 20 8 d 1 3 ∷ [])
 
 abbrev pub alone : ℕ → Call
-alone f = tasks 1 0 (task 10 4 10 f ∷ [])
+alone f = tasks 1 0 (task 10 4 10 f 1 ∷ [])
 
 unfoldable pub cases : List Case
 cases =

@@ -69,7 +69,8 @@ ShortenedStaysYes = (c c′ : Call) (t u : Table) (old old′ new new′ : List 
     → StaysYes (u .n) (λ i. i) f new a new′
 
 abbrev pub fixed : Task → Task
-fixed a = record { flag = 0; period = a .period; cost = a .cost; deadline = a .deadline }
+fixed a =
+    record { flag = 0; period = a .period; cost = a .cost; deadline = a .deadline; level = a .level }
 
 pub record AllFixed (t u : Table) : Type 0 where
   pub policy : u .policy ≡ t .policy
@@ -110,7 +111,7 @@ BoundsNeverRise pol = (c c′ : Call) (t u : Table) (old old′ new new′ : Lis
 
 -- FP, one core, (5,2,d,P) (14,8,14,P): a list of two tasks
 abbrev pub twoTasks : ℕ → List Task
-twoTasks d = task 5 2 d 1 ∷ task 14 8 14 1 ∷ []
+twoTasks d = task 5 2 d 1 1 ∷ task 14 8 14 1 2 ∷ []
 
 -- With D = 4 for task 1 forcing refuses, and so it does with any longer deadlines; with D = 3 the test says
 -- yes to the table as sent.

@@ -48,7 +48,7 @@ pub raised-replied : (text : List ℕ) (old : List Record) (r : Reply) (new : Li
     → Replied (plan (raised text)) old r new ↔ Replied (plan text) old r new
 raised-replied = replies.raised-replied
 
--- Reading's own refusals first; 5, 6, 7, 8 to 11, 13, then 14; each exactly when.
+-- Reading's own refusals first; 5, 6, 7, 8 to 11 and 17, 13, then 14; each exactly when.
 pub reply-exactly : (c : Call) (old : List Record) (r : Reply) (new : List Record) → Replied c old r new
     → (f : Fewest) × (FewestWay c (length old) f × RepliesAs f old r new)
 reply-exactly c old r new h = (fewestOf c (length old), (ways.call-way c (length old), h))

@@ -19,6 +19,7 @@ use Rattle.rounds.proofs.CarryLaws as carry
 use Rattle.rounds_kept.proofs.Sound2.{sound-passing-2}
 use Rattle.table.specs.declared.Table.{Table}
 use Rattle.table.specs.Table.{LegalTable, systemOf, flagsOf}
+use Rattle.table.proofs.TableLaws.{legal-system}
 use Rattle.frames.specs.Digits.{raised}
 use Rattle.lines.proofs.Letters.{raised-read}
 use Rattle.planner.specs.declared.Answer.{Answer}
@@ -47,7 +48,7 @@ use Rattle.editions.proofs.AfterLaws.{accepted-2, force-after-2}
 use Rattle.claims.specs.Words.{Asks, flagsIn, boundsIn}
 use Rattle.claims.specs.Results.{Accepts}
 use Rattle.claims.proofs.Demand1.{verdict}
-use Rattle.claims.proofs.Meaning.{legal-system, promise-same}
+use Rattle.claims.proofs.Meaning.{promise-same}
 
 -- one result, under either edition
 pub answered-one : (e : Edition) (c : Call) (job : Job) (old : List Record)

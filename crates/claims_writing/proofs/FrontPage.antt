@@ -1,4 +1,5 @@
--- The second front page: document 02's Wish 1, with Wish 6's upper case, each sentence beside its theorem.
+-- The second front page: document 02's Wish 1, with Wish 6's upper case and Wish 8's refusals, each sentence
+-- beside its theorem.
 -- What is proved here is proved of every result that the promises of the writers allow: `WroteAs` of a table,
 -- `ChangedAs` of a plan text as changed; and of the numbers that C and Rust are told. Assumes nothing.
 use Prim.Native.Nat.{ℕ, _+_, _*_, _≤_}
@@ -14,7 +15,7 @@ use Rattle.table.specs.Table.{LegalTable}
 use Rattle.table.specs.Checks.{refusal}
 use Rattle.frames.specs.Digits.{raised}
 use Rattle.lines.specs.Reads.{accepted, readOf}
-use Rattle.lines.specs.Writes.{planText}
+use Rattle.lines.specs.Writes.{planText, PlaceLevels}
 use Rattle.planner.specs.declared.Answer.the-variants.{Given, Refused as Stopped}
 use Rattle.planner.specs.declared.Verdict.{Verdict}
 use Rattle.planner.specs.declared.Job.the-variants.{Test, Force}
@@ -22,18 +23,20 @@ use Rattle.planner.specs.Answers.{given, recordsOf}
 use Rattle.planner.specs.Done.{finish, planDone}
 use Rattle.writer.specs.declared.Written.{Written}
 use Rattle.writer.specs.declared.Written.the-variants.{End, Refused}
-use Rattle.writer.specs.Written.{full, WroteAs}
+use Rattle.writer.specs.Written.{full, levelled, WroteAs}
 use Rattle.writer.specs.Ways.{TooFull, Way, between, cleared}
 use Rattle.writer.proofs.Theorems as writer
 use Rattle.changer.specs.declared.Changed.{Changed}
 use Rattle.changer.specs.declared.Changed.the-variants.{End as Ends, Refused as Stops}
 use Rattle.changer.specs.Changed.{withFlags, changedTable, ChangedAs, sentTable, forced, flagsIn, boundsIn}
 use Rattle.changer.proofs.Theorems as changer
+use Rattle.changer.proofs.Eighteen.{never-eighteen}
 use Rattle.told_plans.specs.PlanNumbers.{writtenTold, changedTold}
 use Rattle.told_plans.proofs.EndLaws as told
 use Rattle.wrote.proofs.WroteLaws as wrote
 
--- WISH 1. Refusals: 5 to 11 as for a list, then 16; otherwise the answer is the end place. Each exactly when.
+-- WISH 1. Refusals: 5 to 11, and 17, as for a list, then 16, then 18; otherwise the answer is the end place.
+-- Each exactly when.
 pub answer-exactly : (t : Table) (old : List ℕ) (start : ℕ) (r : Written) (new : List ℕ)
     → WroteAs t old start r new → Way t (length old) start r
 answer-exactly t old start r new w = writer.way-exact t (length old) start r .0 (w .answer)
@@ -43,6 +46,14 @@ answer-exactly t old start r new w = writer.way-exact t (length old) start r .0 
 pub sixteen-exactly : (t : Table) (old : List ℕ) (start : ℕ) (r : Written) (new : List ℕ)
     → WroteAs t old start r new → (r ≡ full) ↔ (LegalTable t × TooFull (planText t) (length old) start)
 sixteen-exactly = wrote.sixteen-exactly
+
+-- 18 (Wish 8), place 0, after all others: exactly if the table is legal, its text has room, and its levels
+-- are not 1, 2, .. n in table order.
+pub eighteen-exactly : (t : Table) (old : List ℕ) (start : ℕ) (r : Written) (new : List ℕ)
+    → WroteAs t old start r new
+    → (r ≡ levelled)
+    ↔ (LegalTable t × (start + length (planText t) ≤ length old) × (PlaceLevels t → ⊥))
+eighteen-exactly = wrote.eighteen-exactly
 
 -- Nothing is written then, nor under any other refusal.
 pub refusal-keeps : (t : Table) (old : List ℕ) (start : ℕ) (why : Refusal) (new : List ℕ)
@@ -124,6 +135,11 @@ pub changed-sixteen : (text old : List ℕ) (start : ℕ) (r : Changed) (new : L
     → (r ≡ Stops (refusal 16 0) 0)
     ↔ TooFull (planText (changedTable (sentTable text))) (length old) start
 changed-sixteen text old start r new w v = changer.refused-full text old start r new w
+
+-- Never with 18 (Wish 8): a plan that is read has its places as levels, and forcing changes flags only.
+pub changed-never-eighteen : (text old : List ℕ) (start : ℕ) (r : Changed) (new : List ℕ)
+    → ChangedAs text old start r new → (passes : ℕ) → r ≡ Stops (refusal 18 0) passes → ⊥
+changed-never-eighteen text old start r new w passes = never-eighteen text old start r new w
 
 -- FOR C AND RUST. The two halves that are told make the end place.
 pub end-told : (end : ℕ) → at (writtenTold (End end)) 9 + 4294967296 * at (writtenTold (End end)) 10 ≡ end

@@ -1,22 +1,20 @@
 -- The code for C can be read back, for every answer of the planner; the numbers of n tasks are answered as
 -- those tasks are; and a last task that is not whole is refused. Assumes nothing.
-use Prim.Native.Nat.{ℕ, zero, suc, _+_, _*_, _/_, _%_, _≤_, _<_, min}
+use Prim.Native.Nat.{ℕ, _+_, _*_, _/_, _%_, _≤_, _<_, min}
 use native.Mathlib.Omega.{arith}
 use mathlib.Core.Path.{_≡_, refl, sym, ap, _∙_}
 use mathlib.Core.Bool.{Bool, true, false}
 use mathlib.Core.Logic.{⊎-elim}
-use mathlib.Core.List.{List, [], _∷_}
-use lib.ListN.{length, replicate, List·getD-eq-default}
-use lib.Seq.{getD-append-add}
+use mathlib.Core.List.{List}
+use lib.ListN.{length, replicate}
 use borrow.Author.Tests.{eq-eqb, ne-eqb}
 use Rattle.base.specs.Rows.{at}
-use Rattle.base.proofs.OrderLaws.{le-or-lt}
-use Rattle.base.proofs.RowLaws.{row-at, row-is}
+use Rattle.base.proofs.RowLaws.{row-is}
 use Rattle.table.specs.declared.Task.{Task}
-use Rattle.table.specs.Table.{noTask, taskAt, LegalTable}
+use Rattle.table.specs.Table.{noTask, taskAt}
 use Rattle.table.specs.Faults.{Within, TableWrong}
 use Rattle.table.specs.Checks.{refusal}
-use Rattle.table.proofs.TableLaws.{table-cases, fault-checked}
+use Rattle.table.proofs.TableLaws.{fault-checked}
 use Rattle.planner.specs.declared.Answer.{Answer}
 use Rattle.planner.specs.declared.Answer.the-variants.{Given, Refused}
 use Rattle.planner.specs.declared.Job.{Job}
@@ -25,9 +23,11 @@ use Rattle.planner.specs.Done.{refuse, tableFrom, listDone, loaded}
 use Rattle.planner.specs.Calls.{plan, tasks, doneOf}
 use Rattle.planner.proofs.JoinLaws.{join-front, loaded-length, loaded-past}
 use Rattle.planner.proofs.ValueLaws.{SmallValues, small-values, table-number}
-use Rattle.flat.specs.Flat.{numbersOf, flatAfter, countIn, taskIn, tasksIn}
+use Rattle.flat_tasks.specs.FlatTasks.{countIn, taskIn, shownIn, tasksIn, tableIn, Placed, flatTasks}
+use Rattle.flat_tasks.proofs.BackLaws.{count-flat, task-flat, four-never, part-faulty}
+use Rattle.flat.specs.Flat.{numbersOf, flatAfter}
 use Rattle.coded.specs.Coded.{jobOf, yesBit, codeOf, Coded, PlanCoded, TasksCoded}
-use Rattle.coded.specs.Back.{readBack, flatTasks}
+use Rattle.coded.specs.Back.{readBack}
 
 abbrev values : ℕ → ℕ → Bool → ℕ → ℕ → Values
 values n l says f p =
@@ -95,107 +95,37 @@ plan-read-back job text old r new h =
     ∙ code-back (doneOf (plan text) (jobOf job) (length old / 3) .answer)
     (small-values (plan text) (jobOf job) (length old / 3))
 
--- the numbers of a list of tasks: how many, and each at its place
-flat-length : (ts : List Task) → length (flatTasks ts) ≡ 4 * length ts
-unfolding flatTasks
-flat-length [] = refl
-flat-length (t ∷ ts) = omega (arith, flat-length ts)
-
-count-flat : (ts : List Task) → countIn (length (flatTasks ts)) ≡ length ts
-count-flat ts = go (length (flatTasks ts)) (flat-length ts)
-  where
-    go : (x : ℕ) → x ≡ 4 * length ts → countIn x ≡ length ts
-    go x e =
-        let whole : x % 4 ≡ 0 = omega arith in
-        rw (eq-eqb (x % 4) 0 whole) (omega arith)
-
--- the place of a number past the first task's
-past : (x y z w : ℕ) (xs : List ℕ) (i j : ℕ) → j ≡ 4 + i → at (x ∷ y ∷ z ∷ w ∷ xs) j ≡ at xs i
-past x y z w xs i j e =
-    ap (at (x ∷ y ∷ z ∷ w ∷ xs)) (let f : j ≡ length (x ∷ y ∷ z ∷ w ∷ []) + i = omega arith in f)
-    ∙ getD-append-add (x ∷ y ∷ z ∷ w ∷ []) xs i 0
-
-task-flat : (ts : List Task) (i : ℕ) → i < length ts → taskIn (flatTasks ts) i ≡ taskAt ts i
-unfolding flatTasks
-task-flat [] i h = absurd (let z : ⊥ = omega arith in z)
-task-flat (t ∷ ts) zero h = refl
-task-flat (t ∷ ts) (suc i) h =
-    rw (
-      past (t .flag) (t .period) (t .cost) (t .deadline) (flatTasks ts) (4 * i) (4 * suc i) (omega arith),
-      past (t .flag) (t .period) (t .cost) (t .deadline) (flatTasks ts) (4 * i + 1) (4 * suc i + 1)
-          (omega arith),
-      past (t .flag) (t .period) (t .cost) (t .deadline) (flatTasks ts) (4 * i + 2) (4 * suc i + 2)
-          (omega arith),
-      past (t .flag) (t .period) (t .cost) (t .deadline) (flatTasks ts) (4 * i + 3) (4 * suc i + 3)
-          (omega arith),
-    )
-    (task-flat ts i (omega arith))
-
--- past the last task there are zeros, in the numbers as in the list
-task-past : (ts : List Task) (i : ℕ) → length ts ≤ i → taskIn (flatTasks ts) i ≡ noTask
-task-past ts i h =
-    rw (
-      none (4 * i) (omega (arith, flat-length ts)),
-      none (4 * i + 1) (omega (arith, flat-length ts)),
-      none (4 * i + 2) (omega (arith, flat-length ts)),
-      none (4 * i + 3) (omega (arith, flat-length ts)),
-    )
-  where
-    none : (j : ℕ) → length (flatTasks ts) ≤ j → at (flatTasks ts) j ≡ 0
-    none j far = List·getD-eq-default (flatTasks ts) 0 far
-
-tasks-flat : (ts : List Task) → tasksIn (flatTasks ts) ≡ loaded ts
-tasks-flat ts =
+-- the numbers of a list of tasks, whose levels are its places, are loaded as it is
+tasks-flat : (ts : List Task) → Placed ts → tasksIn false (flatTasks false ts) ≡ loaded ts
+unfolding tasksIn
+tasks-flat ts placed =
     sym
-    (row-is noTask (taskIn (flatTasks ts)) 32 (loaded ts) (loaded-length ts)
+    (row-is noTask (taskIn false (flatTasks false ts)) (shownIn false (length (flatTasks false ts)))
+    (loaded ts) (loaded-length ts)
     (λ i l small.
-    ⊎-elim (λ (far : length ts ≤ i). loaded-past ts i far ∙ sym (task-past ts i far))
-    (λ (near : i < length ts). loaded-at ts i near small ∙ sym (task-flat ts i near))
-    (le-or-lt (length ts) i))
-    (λ i far small. absurd (let z : ⊥ = omega arith in z)))
+    let near : i < length ts = omega (arith, count-flat false ts) in
+    loaded-at ts i near small ∙ sym (task-flat false ts (λ _. placed) i near))
+    (λ i far small. loaded-past ts i (omega (arith, count-flat false ts))))
   where
     loaded-at : (ts : List Task) (i : ℕ) → i < length ts → i < 32 → taskAt (loaded ts) i ≡ taskAt ts i
     loaded-at ts i l small =
         unfold loaded in
         (join-front (min (length ts) 32) ts (replicate 32 noTask) (omega arith) noTask i (omega arith))
 
--- the numbers of a list of tasks are answered as that list is
+-- the numbers of a list of tasks, whose levels are its places, are answered as that list is
 pub tasks-agree : (job cores policy : ℕ) (ts : List Task) (old : List ℕ) (r : ℕ) (new : List ℕ)
-    → TasksCoded job cores policy (flatTasks ts) old r new
+    → Placed ts → TasksCoded job cores policy (flatTasks false ts) old r new
     → Coded (doneOf (tasks cores policy ts) (jobOf job) (length old / 3)) old r new
-tasks-agree job cores policy ts old r new h = rw (count-flat ts, tasks-flat ts) at h
+tasks-agree job cores policy ts old r new placed h =
+    rw (count-flat false ts, tasks-flat ts placed) at h
 
 pub tasks-read-back : (job cores policy : ℕ) (ts : List Task) (old : List ℕ) (r : ℕ) (new : List ℕ)
-    → TasksCoded job cores policy (flatTasks ts) old r new
+    → Placed ts → TasksCoded job cores policy (flatTasks false ts) old r new
     → readBack r ≡ valuesOf 0 (doneOf (tasks cores policy ts) (jobOf job) (length old / 3) .answer)
-tasks-read-back job cores policy ts old r new h =
-    ap readBack (tasks-agree job cores policy ts old r new h .answer)
+tasks-read-back job cores policy ts old r new placed h =
+    ap readBack (tasks-agree job cores policy ts old r new placed h .answer)
     ∙ code-back (doneOf (tasks cores policy ts) (jobOf job) (length old / 3) .answer)
     (small-values (tasks cores policy ts) (jobOf job) (length old / 3))
-
--- A last task that is not whole has no deadline, so that the table is not legal.
-part-faulty : (cores policy : ℕ) (xs : List ℕ) → (length xs % 4 ≡ 0 → ⊥)
-    → (f : ℕ) × ((p : ℕ) × TableWrong (tableFrom cores policy (countIn (length xs)) (tasksIn xs)) f p)
-part-faulty cores policy xs part =
-    ⊎-elim (λ legal. absurd (not-legal legal)) (λ w. w)
-    (table-cases (tableFrom cores policy (countIn (length xs)) (tasksIn xs)))
-  where
-    last : countIn (length xs) ≡ length xs / 4 + 1
-    last = rw (ne-eqb (length xs % 4) 0 part)
-
-    not-legal : LegalTable (tableFrom cores policy (countIn (length xs)) (tasksIn xs)) → ⊥
-    not-legal legal =
-        let i : ℕ = length xs / 4 in
-        let l : i < countIn (length xs) = omega (arith, last) in
-        let none : at xs (4 * i + 3) ≡ 0 = List·getD-eq-default xs 0 (omega arith) in
-        let is : taskAt (tasksIn xs) i ≡ taskIn xs i =
-        row-at noTask (taskIn xs) 32 i (omega (arith, legal .count)) (omega arith) in
-        omega (
-          arith,
-          legal .each i l .some,
-          legal .each i l .cost,
-          ap (λ t. t .deadline) is,
-        )
 
 -- a refusal: its number is in the code, and the caller's numbers stay
 module _ (f p : ℕ) (small : f ≤ 11) (old : List ℕ) where
@@ -217,12 +147,14 @@ pub part-refused : (job cores policy : ℕ) (xs old : List ℕ) (r : ℕ) (new :
     → TasksCoded job cores policy xs old r new → (length xs % 4 ≡ 0 → ⊥)
     → (Within 5 11 (readBack r .number)) × (new ≡ old)
 part-refused job cores policy xs old r new h part =
-    let w : (f : ℕ) × ((p : ℕ) × TableWrong (tableFrom cores policy (countIn (length xs)) (tasksIn xs)) f p) =
-    part-faulty cores policy xs part in
-    let e : listDone cores policy (countIn (length xs)) (tasksIn xs) (jobOf job) (length old / 3)
+    let w : (f : ℕ) × ((p : ℕ) × TableWrong (tableIn false cores policy xs) f p) =
+    part-faulty false cores policy xs part in
+    let e : listDone cores policy (countIn false (length xs)) (tasksIn false xs) (jobOf job) (length old / 3)
     ≡ refuse (refusal (w .0) (w .1 .0)) 0 =
-    list-refused cores policy (countIn (length xs)) (tasksIn xs) (jobOf job) (length old / 3) (w .1 .1) in
-    let small : Within 5 11 (w .0) = table-number (w .1 .1) in
+    list-refused cores policy (countIn false (length xs)) (tasksIn false xs) (jobOf job) (length old / 3)
+    (w .1 .1) in
+    let small : Within 5 11 (w .0) =
+    ⊎-elim (λ x. x) (λ z. absurd (four-never cores policy xs (w .1 .1) z)) (table-number (w .1 .1)) in
     let is : r % 256 ≡ w .0 =
     ap (λ x. x % 256) (h .answer ∙ ap (λ d. codeOf (d .answer)) e)
     ∙ refuse-number (w .0) (w .1 .0) (small .1) old in (

@@ -49,7 +49,7 @@ plan-coded job text old r new j a ej asked e =
     asked-coded (subst (λ (x : Job). PlanAsked x text old a new) ej asked) e
 
 pub tasks-coded : (job cores policy : ℕ) (xs old : List ℕ) (r : ℕ) (new : List ℕ) (j : Job) (a : Asked)
-    → j ≡ jobOf job → TasksAsked j cores policy xs old a new → r ≡ codeOf (a .answer)
+    → j ≡ jobOf job → TasksAsked false j cores policy xs old a new → r ≡ codeOf (a .answer)
     → TasksCoded job cores policy xs old r new
 tasks-coded job cores policy xs old r new j a ej asked e =
-    asked-coded (subst (λ (x : Job). TasksAsked x cores policy xs old a new) ej asked) e
+    asked-coded (subst (λ (x : Job). TasksAsked false x cores policy xs old a new) ej asked) e

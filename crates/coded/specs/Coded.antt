@@ -6,7 +6,7 @@
 -- Assumes nothing.
 use Prim.Native.Nat.{ℕ, zero, suc, _+_, _*_, _/_}
 use mathlib.Core.Path.{_≡_}
-use mathlib.Core.Bool.{Bool}
+use mathlib.Core.Bool.{Bool, false}
 use mathlib.Core.List.{List}
 use lib.ListN.{length}
 use Rattle.base.specs.Choice.{pick}
@@ -16,7 +16,8 @@ use Rattle.planner.specs.declared.Job.the-variants.{Test, Force}
 use Rattle.planner.specs.declared.Answer.{Answer}
 use Rattle.planner.specs.Answers.{valuesOf}
 use Rattle.planner.specs.Done.{planDone, listDone}
-use Rattle.flat.specs.Flat.{countIn, tasksIn, flatAfter}
+use Rattle.flat_tasks.specs.FlatTasks.{countIn, tasksIn}
+use Rattle.flat.specs.Flat.{flatAfter}
 
 abbrev pub jobOf : ℕ → Job
 jobOf zero = Test
@@ -40,7 +41,8 @@ pub record Coded (d : Done) (old : List ℕ) (r : ℕ) (new : List ℕ) : Type 0
 abbrev pub PlanCoded : ℕ → List ℕ → List ℕ → ℕ → List ℕ → Type 0
 PlanCoded job text old r new = Coded (planDone text (jobOf job) (length old / 3)) old r new
 
--- and of code_tasks and eskihrum_tasks
+-- and of code_tasks and eskihrum_tasks: four numbers to a task, with its place as level
 abbrev pub TasksCoded : ℕ → ℕ → ℕ → List ℕ → List ℕ → ℕ → List ℕ → Type 0
 TasksCoded job cores policy xs old r new =
-    Coded (listDone cores policy (countIn (length xs)) (tasksIn xs) (jobOf job) (length old / 3)) old r new
+    Coded (listDone cores policy (countIn false (length xs)) (tasksIn false xs) (jobOf job) (length old / 3))
+    old r new

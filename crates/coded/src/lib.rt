@@ -42,12 +42,12 @@ pub fn code_plan(job: u32, text: &[u8], records: &mut [u32]) -> u64
     code_of(answer)
 }
 
-// The answer to cores, policy and a flat table.
+// The answer to cores, policy and a flat table, four numbers to a task.
 pub fn code_tasks(job: u32, cores: u32, policy: u32, tasks: &[u32], records: &mut [u32]) -> u64
     ensures { λ r. ⌜ TasksCoded job cores policy (now (tasks .entry)) (now (records .entry)) r
         (now (records .exit)) ⌝ }
 {
-    let asked = asked::tasks_asked(job_of(job), cores, policy, tasks, records);
+    let asked = asked::tasks_asked(job_of(job), cores, policy, false, tasks, records);
     let answer = asked.answer;
     code_of(answer)
 }

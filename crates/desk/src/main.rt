@@ -1,5 +1,5 @@
 // The desk: what is asked of a plan, or of a table that people typed, with read and write alone. Document 02,
-// Wishes 1, 4, 5 and 7.
+// Wishes 1, 4, 5, 7 and 8.
 //
 // Standard input: one line that says what is asked, and then the bytes.
 //
@@ -21,11 +21,13 @@
 //
 // A refusal is one line, as "refused 9 place 3"; for 14 and 15 the passes follow, as "refused 14 place 1
 // passes 2".
-// Under make the place is the task's number, and 0 for 5, 6, 7.
+// Under make the place is the task's number, and 0 for 5, 6, 7 and 18: plan lines hold no level, so that they
+// have to be 1, 2 and so on in table order.
 //
-// The numbers of make are decimal, parted by spaces and 0A: cores, policy, n, and then four numbers for each
-// of n tasks, flag T C D. Each number from 4,294,967,290 on counts as 4,294,967,295: no number so large is in
-// any range. Where n is above 32, what follows it is not looked at.
+// The numbers of make are decimal, parted by spaces and 0A: cores, policy, n, and then a line for each of n
+// tasks, flag T C D and perhaps its level, without which its place counts. Each number from 4,294,967,290 on
+// counts as 4,294,967,295: no number so large is in any range. Where n is above 32, what follows it is not
+// looked at.
 //
 // Of a plan at most the first 1,004 bytes count, as for the plan printer, and so many always fit. What is no
 // such input gives nothing on standard output, and a line on standard error.

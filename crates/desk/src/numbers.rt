@@ -1,4 +1,5 @@
-// A table from decimal numbers: cores, policy, n, and then flag T C D for each task.
+// A table from decimal numbers: cores, policy, n, and then a line for each task, flag T C D and perhaps its
+// level, without which its place counts.
 ghost use Prim.Native.Nat.{_≤_};
 ghost use lib.ListN.{length};
 use table::NO_TASK;
@@ -88,8 +89,38 @@ fn number(s: &[u8], from: usize) -> Found
     }
 }
 
-// The four numbers of a task that stand next.
-fn task_in(s: &[u8], from: usize) -> Typed
+// Whether a word more stands in the line.
+fn goes_on(s: &[u8], from: usize) -> bool
+    requires { ⌜ from ≤ length (now s) ⌝ }
+{
+    let mut i = from;
+    while i < s.len() {
+        let b = s[i];
+        if b != 32 {
+            return b != 10;
+        }
+        i += 1;
+    }
+    false
+}
+
+// The level in the rest of the line, or else the place.
+fn level_in(s: &[u8], from: usize, place: u32) -> Found
+    requires { ⌜ from ≤ length (now s) ⌝ }
+    ensures { λ r. ⌜ r .next ≤ length (now (s .entry)) ⌝ }
+{
+    if goes_on(s, from) {
+        return number(s, from);
+    }
+    Found {
+        value: place,
+        next: from,
+        right: true,
+    }
+}
+
+// The numbers of the task that stand next.
+fn task_in(s: &[u8], from: usize, place: u32) -> Typed
     requires { ⌜ from ≤ length (now s) ⌝ }
     ensures { λ r. ⌜ r .next ≤ length (now (s .entry)) ⌝ }
 {
@@ -97,16 +128,18 @@ fn task_in(s: &[u8], from: usize) -> Typed
     let period = number(s, flag.next);
     let cost = number(s, period.next);
     let deadline = number(s, cost.next);
+    let level = level_in(s, deadline.next, place);
     let task = Task {
         flag: flag.value,
         period: period.value,
         cost: cost.value,
         deadline: deadline.value,
+        level: level.value,
     };
     Typed {
         task: task,
-        next: deadline.next,
-        right: flag.right & period.right & cost.right & deadline.right,
+        next: level.next,
+        right: flag.right & period.right & cost.right & deadline.right & level.right,
     }
 }
 
@@ -122,7 +155,7 @@ pub fn table_in(s: &[u8]) -> Made {
     let mut i: usize = 0;
     if n <= 32 {
         while i < n {
-            let typed = task_in(s, at);
+            let typed = task_in(s, at, i as u32 + 1);
             let task = typed.task;
             tasks[i] = task;
             at = typed.next;

@@ -5,6 +5,7 @@
 --   the place of refusal 14; 0 where forcing accepts           placeOf t
 --   forcing accepts the table as sent                          Accepted t
 --   a task with C no longer, T no shorter, same D and flag     EasedTask a b, b against a
+--   under FP the levels stand to each other as they did        SameOrder t u e
 --   u is eased from t: its task i is task e i of t             EasedTable t u e
 --   u is t but for deadlines                                   Redated t u
 --   u harms nothing that forcing says of t                     UnharmedTable t u e
@@ -12,12 +13,13 @@
 -- Assumes nothing.
 use Prim.Native.Nat.{ℕ, _≤_, _<_}
 use mathlib.Core.Path.{_≡_}
+use mathlib.Core.Logic.{_⊎_}
 use Rattle.base.specs.Rows.{at}
 use Rattle.model.specs.Forcing.{Final, lowest, force}
 use Rattle.model.specs.Demands.{Passes}
 use Rattle.table.specs.declared.Task.{Task}
 use Rattle.table.specs.declared.Table.{Table}
-use Rattle.table.specs.Table.{taskAt, systemOf, flagsOf, LegalTable}
+use Rattle.table.specs.Table.{taskAt, higherIn, systemOf, flagsOf, LegalTable}
 use Rattle.easier.specs.Eased.{Unharmed}
 
 abbrev pub final : Table → Final
@@ -35,16 +37,23 @@ pub record EasedTask (a b : Task) : Type 0 where
   pub cost : b .cost ≤ a .cost
   pub deadline : b .deadline ≡ a .deadline
 
--- the policy is the same, the cores are no fewer, and the tasks that are left stand in their order
+-- Of two tasks the one that was higher is so still, whatever the levels are now: a task that is left out of
+-- the old lines moves the later ones up. EDF has no levels.
+abbrev pub SameOrder : Table → Table → (ℕ → ℕ) → Type 0
+SameOrder t u e = (t .policy ≡ 0) ⊎
+    ((k i : ℕ) → k < u .n → i < u .n → higherIn u k i ≡ higherIn t (e k) (e i))
+
+-- the policy is the same, the cores are no fewer, and the tasks that are left keep their order of levels
 pub record EasedTable (t u : Table) (e : ℕ → ℕ) : Type 0 where
   pub policy : u .policy ≡ t .policy
   pub cores : t .cores ≤ u .cores
   pub inside : (i : ℕ) → i < u .n → e i < t .n
-  pub order : (i j : ℕ) → i < j → j < u .n → e i < e j
+  pub apart : (i j : ℕ) → i < u .n → j < u .n → e i ≡ e j → i ≡ j
+  pub order : SameOrder t u e
   pub tasks : (i : ℕ) → i < u .n → EasedTask (taskAt (t .tasks) (e i)) (taskAt (u .tasks) i)
 
 abbrev pub due : Task → ℕ → Task
-due a d = record { flag = a .flag; period = a .period; cost = a .cost; deadline = d }
+due a d = record { flag = a .flag; period = a .period; cost = a .cost; deadline = d; level = a .level }
 
 pub record Redated (t u : Table) : Type 0 where
   pub policy : u .policy ≡ t .policy

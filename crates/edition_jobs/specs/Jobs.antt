@@ -8,6 +8,7 @@
 -- Assumes nothing.
 use Prim.Native.Nat.{ℕ, _/_}
 use mathlib.Core.Path.{_≡_}
+use mathlib.Core.Bool.{Bool}
 use mathlib.Core.List.{List}
 use lib.ListN.{length, set}
 use Rattle.planner.specs.declared.Answer.{Answer}
@@ -16,7 +17,8 @@ use Rattle.words.specs.Word.{wordOfDone}
 use Rattle.edition_2.specs.declared.Rounded.{Rounded}
 use Rattle.editions.specs.declared.Edition.{Edition}
 use Rattle.editions.specs.Editions.{planIn, listIn}
-use Rattle.flat.specs.Flat.{countIn, tasksIn, flatAfter}
+use Rattle.flat_tasks.specs.FlatTasks.{countIn, tasksIn}
+use Rattle.flat.specs.Flat.{flatAfter}
 use Rattle.told.specs.Told.{yesOf, toldOf, toldAfter}
 use Rattle.asked_in.specs.declared.AskedIn.{AskedIn}
 
@@ -44,8 +46,11 @@ abbrev pub PlanToldIn : Edition → Job → List ℕ → List ℕ → List ℕ �
 PlanToldIn e job text old told x new told′ =
     ToldIn (planIn e text job (length old / 3)) old told x new told′
 
--- and of job_tasks_in; eskihrum_flat_test_tasks_2 and eskihrum_flat_force_tasks_2 likewise
-abbrev pub TasksToldIn : Edition → Job → ℕ → ℕ → List ℕ → List ℕ → List ℕ → ℕ → List ℕ → List ℕ → Type 0
-TasksToldIn e job cores policy xs old told x new told′ =
-    ToldIn (listIn e cores policy (countIn (length xs)) (tasksIn xs) job (length old / 3)) old told x new
-    told′
+-- and of job_tasks_in, where a task has five numbers if levels holds, else four; eskihrum_flat_test_tasks_2
+-- and eskihrum_flat_force_tasks_2 promise it of four, eskihrum_flat_test_levels_2 and
+-- eskihrum_flat_force_levels_2 of five
+abbrev pub TasksToldIn :
+    Bool → Edition → Job → ℕ → ℕ → List ℕ → List ℕ → List ℕ → ℕ → List ℕ → List ℕ → Type 0
+TasksToldIn levels e job cores policy xs old told x new told′ =
+    ToldIn (listIn e cores policy (countIn levels (length xs)) (tasksIn levels xs) job (length old / 3)) old
+    told x new told′

@@ -35,19 +35,20 @@ pub fn job_plan_in(
     tell(answer, asked)
 }
 
-// The job on cores, policy and a flat table.
+// The job on cores, policy and a flat table: five numbers to a task where the levels are given, else four.
 pub fn job_tasks_in(
     edition: Edition,
     job: Job,
     cores: u32,
     policy: u32,
+    levels: bool,
     tasks: &[u32],
     records: &mut [u32],
     answer: &mut [u32],
 ) -> u32
-    ensures { λ r. ⌜ TasksToldIn edition job cores policy (now (tasks .entry)) (now (records .entry))
+    ensures { λ r. ⌜ TasksToldIn levels edition job cores policy (now (tasks .entry)) (now (records .entry))
         (now (answer .entry)) r (now (records .exit)) (now (answer .exit)) ⌝ }
 {
-    let asked = asked_in::tasks_asked_in(edition, job, cores, policy, tasks, records);
+    let asked = asked_in::tasks_asked_in(edition, job, cores, policy, levels, tasks, records);
     tell(answer, asked)
 }

@@ -3,7 +3,7 @@
 --
 --   document 02, Wish 4                                    here
 --   edition 1 is kept as it is                             unrounded of the planner's definition
---   edition 2: reading's refusals, 5 to 11, 13 first       planSecond, listSecond, roomSecond
+--   edition 2: reading's refusals, 5 to 11, 17, 13 first   planSecond, listSecond, roomSecond
 --   .. then the table's answer; 0 rounds in a refusal      rounded of doneSecond, lastRounds
 --   the caller picks one of the two                        legalIn, planIn, listIn; roundedOf of a call
 --   the answer, the rounds, the caller's list afterwards   AnsweredIn

@@ -1,4 +1,5 @@
 pub mod FewestUnique
+pub mod LevelsUnique
 pub mod ToldUnique
 pub mod SecondUnique
 pub mod Unique

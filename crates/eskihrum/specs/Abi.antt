@@ -7,4 +7,4 @@ use Prim.Native.Nat.{ℕ}
 
 -- it goes up by one with each further call or number of an answer
 abbrev pub abi : ℕ
-abi = 5
+abi = 6

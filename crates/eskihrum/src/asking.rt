@@ -1,6 +1,7 @@
-// A function for each job, on a plan text and on a flat table: what is answered goes into a lent list of
-// numbers, in one order for all of them (the crate told).
+// A function for each job, on a plan text and on a flat table of four numbers a task: what is answered goes
+// into a lent list of numbers, in one order for all of them (the crate told).
 ghost use mathlib.Core.Path.{_≡_};
+ghost use mathlib.Core.Bool.{false};
 ghost use Rattle.planner.specs.declared.Job.the-variants.{Test, Force};
 ghost use Rattle.jobs.specs.Jobs.{PlanTold, TasksTold};
 ghost use Rattle.eskihrum.specs.Abi.{abi};
@@ -11,7 +12,7 @@ use planner::Job;
 pub extern "C" fn eskihrum_abi() -> u32
     ensures { λ r. ⌜ r ≡ abi ⌝ }
 {
-    5
+    6
 }
 
 // The test of a plan text.
@@ -49,10 +50,10 @@ pub extern "C" fn eskihrum_flat_test_tasks(
     records: &mut [u32],
     answer: &mut [u32],
 ) -> u32
-    ensures { λ r. ⌜ TasksTold Test cores policy (now (tasks .entry)) (now (records .entry))
+    ensures { λ r. ⌜ TasksTold false Test cores policy (now (tasks .entry)) (now (records .entry))
         (now (answer .entry)) r (now (records .exit)) (now (answer .exit)) ⌝ }
 {
-    jobs::job_tasks(Job::Test, cores, policy, tasks, records, answer)
+    jobs::job_tasks(Job::Test, cores, policy, false, tasks, records, answer)
 }
 
 // Forcing of cores, policy and a flat table.
@@ -64,8 +65,8 @@ pub extern "C" fn eskihrum_flat_force_tasks(
     records: &mut [u32],
     answer: &mut [u32],
 ) -> u32
-    ensures { λ r. ⌜ TasksTold Force cores policy (now (tasks .entry)) (now (records .entry))
+    ensures { λ r. ⌜ TasksTold false Force cores policy (now (tasks .entry)) (now (records .entry))
         (now (answer .entry)) r (now (records .exit)) (now (answer .exit)) ⌝ }
 {
-    jobs::job_tasks(Job::Force, cores, policy, tasks, records, answer)
+    jobs::job_tasks(Job::Force, cores, policy, false, tasks, records, answer)
 }

@@ -1,5 +1,6 @@
 // The fewest cores for a plan text and for a flat table. The answer goes into a lent list of numbers, the
 // number of cores among them.
+ghost use mathlib.Core.Bool.{false};
 ghost use Rattle.fewest_jobs.specs.FewestTold.{PlanFewestTold, TasksFewestTold};
 
 // The fewest cores for a plan text; 1 where there is such a number.
@@ -24,8 +25,8 @@ pub extern "C" fn eskihrum_flat_fewest_tasks(
     records: &mut [u32],
     answer: &mut [u32],
 ) -> u32
-    ensures { λ r. ⌜ TasksFewestTold cores policy (now (tasks .entry)) (now (records .entry))
+    ensures { λ r. ⌜ TasksFewestTold false cores policy (now (tasks .entry)) (now (records .entry))
         (now (answer .entry)) r (now (records .exit)) (now (answer .exit)) ⌝ }
 {
-    fewest_jobs::fewest_tasks(cores, policy, tasks, records, answer)
+    fewest_jobs::fewest_tasks(cores, policy, false, tasks, records, answer)
 }

@@ -1,10 +1,12 @@
 // The planner for C and Rust: the two jobs on a plan text and on a flat table of numbers, with flat records.
 // An archive has the functions of its own crate only; each hands on to one below it, and promises the same.
 // Here are the two calls whose answer is one number; `asking` has a function for each job with a lent answer,
-// `second` those of the second edition, `counting` those that give the fewest cores, and `writing` those that
-// write a plan.
+// `second` those of the second edition, `counting` those that give the fewest cores, `writing` those that
+// write a plan, and `levels` those whose tasks have five numbers, the level last; in all others they have
+// four, and a task's place is its level.
 mod asking;
 mod counting;
+mod levels;
 mod second;
 mod writing;
 

@@ -1,5 +1,6 @@
 // A function for each job under the second edition, on a plan text and on a flat table: the numbers of the
 // answer in the same order as under the first, and the round count among them.
+ghost use mathlib.Core.Bool.{false};
 ghost use Rattle.planner.specs.declared.Job.the-variants.{Test, Force};
 ghost use Rattle.editions.specs.declared.Edition.the-variants.{Second};
 ghost use Rattle.edition_jobs.specs.Jobs.{PlanToldIn, TasksToldIn};
@@ -41,7 +42,7 @@ pub extern "C" fn eskihrum_flat_test_tasks_2(
     records: &mut [u32],
     answer: &mut [u32],
 ) -> u32
-    ensures { λ r. ⌜ TasksToldIn Second Test cores policy (now (tasks .entry)) (now (records .entry))
+    ensures { λ r. ⌜ TasksToldIn false Second Test cores policy (now (tasks .entry)) (now (records .entry))
         (now (answer .entry)) r (now (records .exit)) (now (answer .exit)) ⌝ }
 {
     edition_jobs::job_tasks_in(
@@ -49,6 +50,7 @@ pub extern "C" fn eskihrum_flat_test_tasks_2(
         Job::Test,
         cores,
         policy,
+        false,
         tasks,
         records,
         answer,
@@ -64,7 +66,7 @@ pub extern "C" fn eskihrum_flat_force_tasks_2(
     records: &mut [u32],
     answer: &mut [u32],
 ) -> u32
-    ensures { λ r. ⌜ TasksToldIn Second Force cores policy (now (tasks .entry)) (now (records .entry))
+    ensures { λ r. ⌜ TasksToldIn false Second Force cores policy (now (tasks .entry)) (now (records .entry))
         (now (answer .entry)) r (now (records .exit)) (now (answer .exit)) ⌝ }
 {
     edition_jobs::job_tasks_in(
@@ -72,6 +74,7 @@ pub extern "C" fn eskihrum_flat_force_tasks_2(
         Job::Force,
         cores,
         policy,
+        false,
         tasks,
         records,
         answer,

@@ -6,7 +6,7 @@
 --   a legal table is answered                                legalFewest
 --   13 before any forcing                                    roomFewest
 --   a plan: the reading's refusal, or its table              planFewest
---   cores, policy and a list of tasks: 5 to 11 first         listFewest of 32 places, tasksFewest
+--   cores, policy and tasks: 5 to 11 and 17 first            listFewest of 32 places, tasksFewest
 --
 -- A table's own number of cores is checked with the rest of it, and then no more looked at (onCores).
 -- Assumes nothing.

@@ -4,7 +4,7 @@
 --   the fewest cores from 1 to 16 with which forcing accepts ..      fewest-found, with forcing's answer
 --   14 with place and passes as found at 16 cores                    fewest-refused
 --   a byte string; cores, policy and a list of tasks                 fewestOf c room, of a call c
---   reading's own refusals; 5 to 11; 13; then 14                     FewestWay, of a call
+--   reading's own refusals; 5 to 11 and 17; 13; then 14              FewestWay, of a call
 --
 -- Assumes nothing.
 use Prim.Native.Nat.{ℕ, _≤_, _<_}

@@ -1,12 +1,14 @@
 -- What is told of what was found, and from what was found by value to the promises. Assumes nothing.
 use Prim.Native.Nat.{ℕ, _/_}
 use mathlib.Core.Path.{_≡_, refl, ap, _∙_}
+use mathlib.Core.Bool.{Bool}
 use mathlib.Core.List.{List}
 use lib.ListN.{length, getD, set}
 use Rattle.table.specs.declared.Task.{Task}
 use Rattle.planner.proofs.CountLaws.{Small}
 use Rattle.words.specs.Word.{wordOfDone}
-use Rattle.flat.specs.Flat.{countIn, tasksIn, flatAfter, Fits}
+use Rattle.flat_tasks.specs.FlatTasks.{countIn, tasksIn}
+use Rattle.flat.specs.Flat.{flatAfter, Fits}
 use Rattle.flat.proofs.FlatLaws.{flat-fits}
 use Rattle.told.specs.Told.{fields, toldOf, toldAfter, yesOf}
 use Rattle.fewest.specs.declared.Fewest.{Fewest}
@@ -40,8 +42,8 @@ pub plan-told : (text old ans : List ℕ) (r : ℕ) (new ans′ : List ℕ) (f :
     → PlanFewestTold text old ans r new ans′
 plan-told text old ans r new ans′ f e h = rw e at h
 
-pub tasks-told : (cores policy : ℕ) (xs old ans : List ℕ) (r : ℕ) (new ans′ : List ℕ) (n : ℕ)
-    (ts : List Task) (f : Fewest) → n ≡ countIn (length xs) → ts ≡ tasksIn xs
+pub tasks-told : (levels : Bool) (cores policy : ℕ) (xs old ans : List ℕ) (r : ℕ) (new ans′ : List ℕ) (n : ℕ)
+    (ts : List Task) (f : Fewest) → n ≡ countIn levels (length xs) → ts ≡ tasksIn levels xs
     → f ≡ listFewest cores policy n ts (length old / 3) → FewestTold f old ans r new ans′
-    → TasksFewestTold cores policy xs old ans r new ans′
-tasks-told cores policy xs old ans r new ans′ n ts f en et ef h = rw (ef, en, et) at h
+    → TasksFewestTold levels cores policy xs old ans r new ans′
+tasks-told levels cores policy xs old ans r new ans′ n ts f en et ef h = rw (ef, en, et) at h

@@ -31,6 +31,6 @@ fewest-plan-only κs a x y s s′ p q = fewest-told-only _ _ _ p q
 pub fewest-tasks-only : (κs : Lfts 3) (a : Dens κs fewest-tasks.ps) (x y : resT fewest-tasks.r κs .Denot)
     (s s′ : AtExit (endedOf 3 fewest-tasks.ps fewest-tasks.r) κs) → fewest-tasks-reads.Post κs a x s
     → fewest-tasks-reads.Post κs a y s′
-    → (x ≡ y) × (now (s .1 .1 .1 .0) ≡ now (s′ .1 .1 .1 .0))
-    × (now (s .1 .1 .1 .1 .0) ≡ now (s′ .1 .1 .1 .1 .0))
+    → (x ≡ y) × (now (s .1 .1 .1 .1 .0) ≡ now (s′ .1 .1 .1 .1 .0))
+    × (now (s .1 .1 .1 .1 .1 .0) ≡ now (s′ .1 .1 .1 .1 .1 .0))
 fewest-tasks-only κs a x y s s′ p q = fewest-told-only _ _ _ p q

@@ -7,10 +7,12 @@
 -- Assumes nothing.
 use Prim.Native.Nat.{ℕ, _/_}
 use mathlib.Core.Path.{_≡_}
+use mathlib.Core.Bool.{Bool}
 use mathlib.Core.List.{List}
 use lib.ListN.{length, set}
 use Rattle.words.specs.Word.{wordOfDone}
-use Rattle.flat.specs.Flat.{countIn, tasksIn, flatAfter}
+use Rattle.flat_tasks.specs.FlatTasks.{countIn, tasksIn}
+use Rattle.flat.specs.Flat.{flatAfter}
 use Rattle.told.specs.Told.{yesOf, toldOf, toldAfter}
 use Rattle.fewest.specs.declared.Fewest.{Fewest}
 use Rattle.fewest.specs.Fewest.{planFewest, listFewest}
@@ -29,8 +31,9 @@ abbrev pub PlanFewestTold : List ℕ → List ℕ → List ℕ → ℕ → List 
 PlanFewestTold text old told r new told′ =
     FewestTold (planFewest text (length old / 3)) old told r new told′
 
--- and of fewest_tasks, and of eskihrum_flat_fewest_tasks
-abbrev pub TasksFewestTold : ℕ → ℕ → List ℕ → List ℕ → List ℕ → ℕ → List ℕ → List ℕ → Type 0
-TasksFewestTold cores policy xs old told r new told′ =
-    FewestTold (listFewest cores policy (countIn (length xs)) (tasksIn xs) (length old / 3)) old told r new
-    told′
+-- and of fewest_tasks, where a task has five numbers if levels holds, else four: of
+-- eskihrum_flat_fewest_tasks with four, and of eskihrum_flat_fewest_levels with five
+abbrev pub TasksFewestTold : Bool → ℕ → ℕ → List ℕ → List ℕ → List ℕ → ℕ → List ℕ → List ℕ → Type 0
+TasksFewestTold levels cores policy xs old told r new told′ =
+    FewestTold (listFewest cores policy (countIn levels (length xs)) (tasksIn levels xs) (length old / 3)) old
+    told r new told′

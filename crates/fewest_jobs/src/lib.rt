@@ -32,20 +32,22 @@ pub fn fewest_plan(text: &[u8], records: &mut [u32], answer: &mut [u32]) -> u32
     tell(records, answer, f)
 }
 
-// The fewest cores for a flat table. The caller's number of cores is checked, and otherwise not used.
+// The fewest cores for a flat table: five numbers to a task where the levels are given, else four. The
+// caller's number of cores is checked, and otherwise not used.
 pub fn fewest_tasks(
     cores: u32,
     policy: u32,
+    levels: bool,
     tasks: &[u32],
     records: &mut [u32],
     answer: &mut [u32],
 ) -> u32
-    ensures { λ r. ⌜ TasksFewestTold cores policy (now (tasks .entry)) (now (records .entry))
+    ensures { λ r. ⌜ TasksFewestTold levels cores policy (now (tasks .entry)) (now (records .entry))
         (now (answer .entry)) r (now (records .exit)) (now (answer .exit)) ⌝ }
 {
     let room = records.len() / 3;
-    let n = flat::count_in(tasks.len());
-    let list = flat::tasks_in(tasks);
+    let n = flat_tasks::count_in(tasks.len(), levels);
+    let list = flat_tasks::tasks_in(tasks, levels);
     let f = fewest::list_fewest(cores, policy, n, list, room);
     tell(records, answer, f)
 }

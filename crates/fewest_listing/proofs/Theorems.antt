@@ -77,4 +77,4 @@ listing-with-cores text t j e few =
     (sym (listing-written u (text-accepted u legal (record {
       places = w .zeros .places;
       zeros = w .zeros .zeros;
-    })) legal)))
+    }) (w .levels)) legal)))

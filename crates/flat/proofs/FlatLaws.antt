@@ -1,26 +1,19 @@
 -- Records as numbers: one record is three stores, and records that are written one after the other make the
 -- flat answer. Assumes nothing.
-use Prim.Native.Nat.{ℕ, _+_, _*_, _/_, _%_, _≤_, _<_}
+use Prim.Native.Nat.{ℕ, _+_, _*_, _/_, _≤_, _<_}
 use native.Mathlib.Omega.{arith}
 use native.Mathlib.Numerals.{add-one}
 use mathlib.Core.Path.{_≡_, refl, ap, _∙_}
 use mathlib.Core.List.{List, [], _∷_, _++_}
 use lib.ListN.{length, take, drop, set}
 use lib.Seq.{take-suc}
-use borrow.Author.Tests.{eq-eqb, ne-eqb}
 use Rattle.buffer.specs.Put.{Put}
 use Rattle.buffer.proofs.PutLaws.{put-none, put-one, put-then, put-start, put-length}
 use Rattle.planner.specs.declared.Record.{Record}
 use Rattle.planner.specs.declared.Done.{Done}
 use Rattle.planner.specs.Answers.{noRecord, recordAt}
 use Rattle.planner.proofs.CountLaws.{Small}
-use Rattle.flat.specs.Flat.{countIn, recordNumbers, numbersOf, flatAfter, Fits}
-
-pub count-whole : (x : ℕ) → x % 4 ≡ 0 → x / 4 ≡ countIn x
-count-whole x e = rw (eq-eqb (x % 4) 0 e)
-
-pub count-part : (x : ℕ) → (x % 4 ≡ 0 → ⊥) → x / 4 + 1 ≡ countIn x
-count-part x e = rw (ne-eqb (x % 4) 0 e)
+use Rattle.flat.specs.Flat.{recordNumbers, numbersOf, flatAfter, Fits}
 
 -- one record: three stores
 pub record-put : (s : List ℕ) (i : ℕ) (r : Record) → 3 * i + 3 ≤ length s

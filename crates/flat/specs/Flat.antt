@@ -1,20 +1,14 @@
--- Tables and records as C and Rust have them: numbers, one after the other.
+-- Records as C and Rust have them: numbers, one after the other.
 --
 --   a record: flag, forced, bound       recordNumbers
---   a task: flag, T, C, D               taskIn xs i; what is missing at the end counts as 0
 --   the caller's numbers afterwards     flatAfter
 --   there is room for the records       Fits
 --
 -- Assumes nothing.
-use Prim.Native.Nat.{ℕ, _+_, _*_, _/_, _%_, _≤_}
+use Prim.Native.Nat.{ℕ, _*_, _≤_}
 use mathlib.Core.Path.{_≡_}
 use mathlib.Core.List.{List, [], _∷_, _++_}
 use lib.ListN.{length, take, drop}
-use lib.Dec.{eqb}
-use Rattle.base.specs.Choice.{pick}
-use Rattle.base.specs.Rows.{at, row}
-use Rattle.table.specs.Table.{noTask}
-use Rattle.table.specs.declared.Task.{Task}
 use Rattle.planner.specs.declared.Record.{Record}
 use Rattle.planner.specs.declared.Done.{Done}
 
@@ -32,19 +26,3 @@ flatAfter d old = numbersOf (take (d .count) (d .recs)) ++ drop (3 * d .count) o
 -- the records of an answer are there, and so many numbers have room for them
 abbrev pub Fits : Done → ℕ → Type 0
 Fits d len = (3 * d .count ≤ len) × (d .count ≤ 32) × (length (d .recs) ≡ 32)
-
--- the number of tasks in so many numbers
-abbrev pub countIn : ℕ → ℕ
-countIn x = pick (eqb (x % 4) 0) (x / 4) (x / 4 + 1)
-
-abbrev pub taskIn : List ℕ → ℕ → Task
-taskIn xs i = record {
-  flag = at xs (4 * i);
-  period = at xs (4 * i + 1);
-  cost = at xs (4 * i + 2);
-  deadline = at xs (4 * i + 3);
-}
-
--- the first 32 tasks
-abbrev pub tasksIn : List ℕ → List Task
-tasksIn xs = row noTask (taskIn xs) 32

@@ -1,58 +1,11 @@
-// The planner's tables and records as C and Rust have them: four numbers to a task, three to a record.
+// The planner's records as C and Rust have them: three numbers to a record.
 ghost use mathlib.Core.Path.{_≡_};
 ghost use Prim.Native.Nat.{_+_, _*_, _≤_, _<_};
 ghost use lib.ListN.{length};
-ghost use Rattle.base.specs.Rows.{at};
 ghost use Rattle.buffer.specs.Put.{Put};
-ghost use Rattle.flat.specs.Flat.{countIn, taskIn, tasksIn, recordNumbers, flatAfter, Fits};
+ghost use Rattle.flat.specs.Flat.{recordNumbers, flatAfter, Fits};
 use planner::Done;
 use planner::Record;
-use table::NO_TASK;
-use table::Task;
-
-// The number at a place, 0 past the end.
-fn number_at(s: &[u32], i: usize) -> u32
-    ensures { λ r. ⌜ r ≡ at (now (s .entry)) i ⌝ }
-{
-    if i < s.len() { s[i] } else { 0 }
-}
-
-// Four numbers to a task; what is missing of the last task counts as 0.
-pub fn count_in(numbers: usize) -> usize
-    ensures { λ r. ⌜ r ≡ countIn numbers ⌝ }
-{
-    if numbers % 4 == 0 {
-        numbers / 4
-    } else {
-        numbers / 4 + 1
-    }
-}
-
-// Task i of a flat table.
-pub fn task_in(s: &[u32], i: usize) -> Task
-    requires { ⌜ i < 32 ⌝ }
-    ensures { λ r. ⌜ r ≡ taskIn (now (s .entry)) i ⌝ }
-{
-    Task {
-        flag: number_at(s, 4 * i),
-        period: number_at(s, 4 * i + 1),
-        cost: number_at(s, 4 * i + 2),
-        deadline: number_at(s, 4 * i + 3),
-    }
-}
-
-// The first 32 tasks of a flat table, zeros past its end.
-pub fn tasks_in(s: &[u32]) -> [Task; 32]
-    ensures { λ r. ⌜ r ≡ tasksIn (now (s .entry)) ⌝ }
-{
-    let mut tasks = [NO_TASK; 32];
-    let mut i: usize = 0;
-    while i < 32 {
-        tasks[i] = task_in(s, i);
-        i += 1;
-    }
-    tasks
-}
 
 // The three numbers of a record, at the place of record i.
 pub fn put_record(out: &mut [u32], i: usize, r: Record)

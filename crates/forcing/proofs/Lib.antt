@@ -1,3 +1,4 @@
+pub mod DeepLaws
 pub mod StartLaws
 pub mod PassingLaws
 pub mod TableLaws

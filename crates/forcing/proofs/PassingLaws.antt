@@ -26,34 +26,30 @@ use Rattle.table.specs.Table.{policyOf}
 use Rattle.flags.specs.declared.Flags.{Flags}
 use Rattle.flags.specs.Flags.{flagIn, held, lastTo}
 use Rattle.flags.proofs.FlagLaws.{flag-small, zero-flag, held-flag, held-at, held-same}
-use Rattle.flags.proofs.FlagLaws.{none-lacks, lacking-held, held-past, made-held, lowest-held}
-use Rattle.flags.proofs.LastLaws.{last-past, last-within, last-none, last-some}
+use Rattle.flags.proofs.FlagLaws.{none-lacks, lacking-held, made-held, lowest-held}
+use Rattle.flags.proofs.LastLaws.{last-past, last-none, last-some}
 use Rattle.passes.specs.Passes.{Onward, Preempted, lowestNone, Last}
 use Rattle.passes.proofs.OnwardLaws.{q-sooner, sooner-kept}
-use Rattle.forcing.specs.Forced.{endOf, givenList, finalOf, Ended}
+use Rattle.forcing.specs.Forced.{deepest, belowOf, givenList, finalOf, Ended}
+use Rattle.forcing.proofs.DeepLaws.{deepest-holds}
 use Rattle.forcing.proofs.StartLaws.{Sized, flags-read, bound-read, Passing}
 
 lacks-same : (x b b′ : ℕ) → (0 < x → b ≡ b′) → lacks x b ≡ lacks x b′
 lacks-same zero b b′ e = unfold lacks in refl
 lacks-same (suc x) b b′ e = ap (lacks (suc x)) (e (omega arith))
 
-lacks-one : (x : ℕ) → lacks x 1 ≡ 0
-unfolding lacks
-lacks-one zero = refl
-lacks-one (suc x) = refl
-
 -- one turn of the loop: the pass, and the last task that lacks a bound
-module _ {s : System} (sized : Sized s) {given flags failing : Flags} {end passes last : ℕ}
-    {old bounds : List ℕ}
-    (a : Passing s given flags end old passes) (pass : Onward s (flagIn flags) end old bounds)
+module _ {s : System} {level : ℕ → ℕ} (sized : Sized s level) {given flags failing : Flags}
+    {below passes last : ℕ} {old bounds : List ℕ} (a : Passing s level given flags below old passes)
+    (pass : Onward s (flagIn flags) level below (s .count) old bounds)
     (fails : failing ≡ held (at bounds) (s .count))
     (counted : last ≡ lastTo (λ i. lacks (flagIn flags i) (flagIn failing i)) 32)
   where
     -- each preemptive task has its bound in the row, or has none
     searched : (k : ℕ) → k < s .count → 0 < flagIn flags k → at bounds k ≡ bound s (flagIn flags) k
     searched k lt pre =
-        ⊎-elim (λ le. pass .kept k le ∙ a .known k le lt pre) (λ less. pass .found k less pre)
-        (le-or-lt end k)
+        ⊎-elim (λ le. pass .kept k le ∙ a .known k le lt pre) (λ less. pass .found k lt less pre)
+        (le-or-lt below (level k))
 
     abbrev tested : List ℕ
     tested = test s (a .list)
@@ -180,46 +176,38 @@ module _ {s : System} (sized : Sized s) {given flags failing : Flags} {end passe
         stays : (k : ℕ) → k < s .count → 0 < flagIn next k → flagIn next k ≡ flagIn flags k
         stays k lt pre = omega (arith, fewer k lt, flag-small flags k)
 
-        sees-none : (k : ℕ) → last ≤ k → (i : ℕ) → i < s .count
-            → (s .higher k i ≡ true) ⊎ (flagIn next i ≡ flagIn flags i)
-        sees-none k le i lt =
-            ⊎-elim
-            (λ (low : k ≤ i). inr
-            (flag-left i (omega (arith, sized .few))
-            ∙ (let e : flagIn flags i - lacks (flagIn flags i) (flagIn failing i) ≡ flagIn flags i =
-            omega (arith, none-past i (omega arith) (omega (arith, sized .few))) in e)))
-            (λ less. inl (sized .order k i less)) (le-or-lt k i)
+        abbrev lack : ℕ → ℕ
+        lack i = lacks (flagIn flags i) (flagIn failing i)
 
-        -- under FP a task below the last that was forced keeps its bound
-        kept-below : s .policy ≡ FP → (k : ℕ) → last ≤ k → k < s .count → 0 < flagIn next k
-            → at bounds k ≡ bound s (flagIn next) k
+        -- a task that is not above the deepest of them sees none of them become non-preemptive
+        sees-none : (k : ℕ) → deepest level lack (s .count) ≤ level k → (i : ℕ) → i < s .count
+            → (s .higher k i ≡ true) ⊎ (flagIn next i ≡ flagIn flags i)
+        sees-none k le i lt = go (lack i) refl
+          where
+            go : (x : ℕ) → lack i ≡ x → (s .higher k i ≡ true) ⊎ (flagIn next i ≡ flagIn flags i)
+            go zero e = inr (let y : flagIn next i ≡ flagIn flags i =
+                omega (arith, flag-left i (omega (arith, sized .few)), e) in y)
+            go (suc x) e =
+                inl (sized .order k i
+                (omega (arith, deepest-holds level lack (s .count) i lt (λ z. omega arith))))
+
+        -- so under FP it keeps its bound
+        kept-below : s .policy ≡ FP → (k : ℕ) → deepest level lack (s .count) ≤ level k → k < s .count
+            → 0 < flagIn next k → at bounds k ≡ bound s (flagIn next) k
         kept-below fp k le lt pre =
             searched k lt (omega (arith, fewer k lt))
             ∙ fp-above s (flagIn flags) (flagIn next) k (stays k lt pre) (sees-none k le) fp
             (sized .timed k lt)
 
-        known-from : (p : ℕ) → s .policy ≡ policyOf p → (k : ℕ) → endOf p (s .count) last ≤ k → k < s .count
-            → 0 < flagIn next k → at bounds k ≡ bound s (flagIn next) k
-        unfolding endOf
-        known-from zero e k le lt pre = absurd (let z : ⊥ = omega arith in z)
+        known-from : (p : ℕ) → s .policy ≡ policyOf p → (k : ℕ) → belowOf p level lack (s .count) ≤ level k
+            → k < s .count → 0 < flagIn next k → at bounds k ≡ bound s (flagIn next) k
+        unfolding belowOf
+        known-from zero e k le lt pre = absurd (let z : ⊥ = omega (arith, sized .low k lt) in z)
         known-from (suc p) e k le lt pre = kept-below e k le lt pre
 
-        end-within : (p : ℕ) → endOf p (s .count) last ≤ s .count
-        unfolding endOf
-        end-within zero = le-refl _
-        end-within (suc p) =
-            omega (
-              arith,
-              counted,
-              last-within (λ i. lacks (flagIn flags i) (flagIn failing i)) (s .count) 32
-                  (λ i le lt.
-                  ap (lacks (flagIn flags i))
-                  (ap (λ f. flagIn f i) fails ∙ held-past (at bounds) (s .count) i le lt)
-                  ∙ lacks-one (flagIn flags i)),
-            )
-
-        pub passing-more : {end′ : ℕ} (p : ℕ) → s .policy ≡ policyOf p → end′ ≡ endOf p (s .count) last
-            → Passing s given next end′ bounds (passes + 1)
+        pub passing-more : {below′ : ℕ} (p : ℕ) → s .policy ≡ policyOf p
+            → below′ ≡ belowOf p level (λ i. lacks (flagIn flags i) (flagIn failing i)) (s .count)
+            → Passing s level given next below′ bounds (passes + 1)
         passing-more p policy e = record {
           list = nextList;
           way = next-way;
@@ -231,6 +219,5 @@ module _ {s : System} (sized : Sized s) {given flags failing : Flags} {end passe
                 (q-sooner s (flagIn flags) k (at bounds k) (sized .timed k lt)
                 (λ z. omega (arith, fewer k lt)) (searched k lt (omega (arith, fewer k lt))));
           };
-          within = omega (arith, e, end-within p);
           known = λ k le. known-from p policy k (omega (arith, e));
         }

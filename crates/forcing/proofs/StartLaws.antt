@@ -1,14 +1,12 @@
--- What the loop of passes knows before each pass, and that it knows it at the start; and who is searched in
--- the next pass, by policy.
+-- What the loop of passes knows before each pass, and that it knows it at the start.
 -- Assumes nothing.
-use Prim.Native.Nat.{ℕ, zero, suc, _-_, _≤_, _<_}
+use Prim.Native.Nat.{ℕ, _≤_, _<_}
 use native.Mathlib.Omega.{arith}
-use native.Mathlib.Nat.{le-refl}
-use mathlib.Core.Path.{_≡_, refl, sym, ap, _∙_, subst}
+use mathlib.Core.Path.{_≡_, sym, ap, _∙_, subst}
 use mathlib.Core.Bool.{true}
 use mathlib.Core.List.{List}
 use lib.ListN.{length, replicate, length-replicate, getD-replicate}
-use borrow.Author.Tests.{lt-ltb}
+use borrow.Author.Tests.{le-leb}
 use Rattle.base.specs.Rows.{at}
 use Rattle.base.proofs.RowLaws.{list-at}
 use Rattle.model.specs.Bound.{System, bound}
@@ -20,29 +18,33 @@ use Rattle.flags.specs.declared.Flags.{Flags}
 use Rattle.flags.specs.Flags.{flagIn, held}
 use Rattle.flags.proofs.FlagLaws.{flag-small, held-flag, held-same}
 use Rattle.rows.specs.declared.Head.{Head}
+use Rattle.rows.specs.Levels.{levelIn}
 use Rattle.rows.specs.Held.{systemIn, LegalRows}
 use Rattle.bound.specs.Ahead.{NoneSooner}
 use Rattle.bound.proofs.SearchLaws.{none-at-first}
 use Rattle.passes.specs.Passes.{qOf, Floors}
 use Rattle.passes.proofs.OnwardLaws.{q-none}
-use Rattle.forcing.specs.Forced.{endOf, givenList}
+use Rattle.forcing.specs.Forced.{givenList}
 
--- what the laws need of a system: times above 0, at most 32 tasks, and under FP the earlier place higher
-pub record Sized (s : System) : Type 0 where
+-- what the laws need of a system: times above 0, at most 32 tasks, and levels of at most 32 by which a task
+-- counts as higher
+pub record Sized (s : System) (level : ℕ → ℕ) : Type 0 where
   pub timed : Timed s
   pub few : s .count ≤ 32
-  pub order : (k i : ℕ) → i < k → s .higher k i ≡ true
+  pub low : (k : ℕ) → k < s .count → level k ≤ 32
+  pub order : (k i : ℕ) → level i ≤ level k → s .higher k i ≡ true
 
 pub rows-sized : {h : Head} {inverse rest cost reach : List ℕ} → LegalRows h inverse rest cost reach
-    → Sized (systemIn h rest cost reach)
+    → Sized (systemIn h rest cost reach) (levelIn (h .levels))
 rows-sized legal = record {
   timed = λ k lt. legal .each k lt .time;
   few = legal .count;
-  order = λ k i lt. lt-ltb i k lt;
+  low = legal .levels;
+  order = λ k i le. le-leb _ _ le;
 }
 
-module _ {s : System} (sized : Sized s) {flags : Flags} (fs : List ℕ) (is : flags ≡ held (at fs) (s .count))
-    (one : FlagsOf s (at fs))
+module _ {s : System} {level : ℕ → ℕ} (sized : Sized s level) {flags : Flags} (fs : List ℕ)
+    (is : flags ≡ held (at fs) (s .count)) (one : FlagsOf s (at fs))
   where
     -- under the flags that are held, a task has the bound that it has under the list
     pub flags-read : (i : ℕ) → i < s .count → flagIn flags i ≡ at fs i
@@ -51,19 +53,21 @@ module _ {s : System} (sized : Sized s) {flags : Flags} (fs : List ℕ) (is : fl
     pub bound-read : (k : ℕ) → k < s .count → bound s (flagIn flags) k ≡ bound s (at fs) k
     bound-read k lt = sym (bound-same s (at fs) (flagIn flags) k (sized .timed k lt) lt flags-read)
 
--- What the loop knows before a pass over the first `end` tasks: the list that its flags hold is on the way
--- from the given ones; the floors; and the bounds of the preemptive tasks from `end` on.
-pub record Passing (s : System) (given flags : Flags) (end : ℕ) (bounds : List ℕ) (passes : ℕ) : Type 0 where
+-- What the loop knows before a pass over the tasks with levels smaller than `below`: the list that its flags
+-- hold is on the way from the given ones; the floors; and the bounds of the other preemptive tasks.
+pub record Passing (s : System) (level : ℕ → ℕ) (given flags : Flags) (below : ℕ) (bounds : List ℕ)
+    (passes : ℕ)
+    : Type 0 where
   pub list : List ℕ
   pub way : Forcing s (givenList s given) list passes
   pub holds : flags ≡ held (at list) (s .count)
   pub floors : Floors s (flagIn flags) bounds
-  pub within : end ≤ s .count
-  pub known : (k : ℕ) → end ≤ k → k < s .count → 0 < flagIn flags k → at bounds k ≡ bound s (flagIn flags) k
+  pub known : (k : ℕ) → below ≤ level k → k < s .count → 0 < flagIn flags k
+      → at bounds k ≡ bound s (flagIn flags) k
 
-pub passing-start : {s : System} → Sized s → {given : Flags} {bounds : List ℕ}
+pub passing-start : {s : System} {level : ℕ → ℕ} → Sized s level → {given : Flags} {bounds : List ℕ}
     → given ≡ held (flagIn given) (s .count) → bounds ≡ replicate 32 0
-    → Passing s given given (s .count) bounds 1
+    → Passing s level given given 33 bounds 1
 passing-start {s} sized {given} {bounds} is empty = record {
   list = givenList s given;
   way =
@@ -80,20 +84,9 @@ passing-start {s} sized {given} {bounds} is empty = record {
         (ap (λ xs. at xs k) empty ∙ getD-replicate {A = ℕ} 32 k 0 0 (omega (arith, sized .few)))))
         (none-at-first s (flagIn given) k);
   };
-  within = le-refl _;
-  known = λ k le lt. absurd (let z : ⊥ = omega arith in z);
+  known = λ k le lt. absurd (let z : ⊥ = omega (arith, sized .low k lt) in z);
 }
 
-pub passing-small : {s : System} → Sized s → {given flags : Flags} {end : ℕ} {bounds : List ℕ} {passes : ℕ}
-    → Passing s given flags end bounds passes → passes ≤ 33
+pub passing-small : {s : System} {level : ℕ → ℕ} → Sized s level → {given flags : Flags} {below : ℕ}
+    {bounds : List ℕ} {passes : ℕ} → Passing s level given flags below bounds passes → passes ≤ 33
 passing-small sized a = omega (arith, a .way .small, sized .few)
-
--- by policy
-pub end-edf : {p : ℕ} (n last : ℕ) → p ≡ 0 → n ≡ endOf p n last
-unfolding endOf
-end-edf n last e = rw e refl
-
-pub end-fp : {p : ℕ} (n last : ℕ) → (p ≡ 0 → ⊥) → last ≡ endOf p n last
-unfolding endOf
-end-fp {p = zero} n last some = absurd (some refl)
-end-fp {p = suc p} n last some = refl

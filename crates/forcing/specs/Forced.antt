@@ -3,10 +3,11 @@
 --   document 01, Algorithm 2                               here
 --   the flags as given, a list                             givenList s given
 --   final flags, passes, the lowest task without a bound   Ended s given bounds r, by the model's force
---   after a change of a flag: who may see it               endOf policy n last: the first n or `last` tasks
+--   the greatest level among the first n tasks that lack   deepest level lack n, 0 for none
+--   after a change of flags: who may see it                belowOf: all, or whose level is smaller than that
 --
 -- Assumes nothing.
-use Prim.Native.Nat.{ℕ, zero, suc, _<_}
+use Prim.Native.Nat.{ℕ, zero, suc, _<_, max}
 use mathlib.Core.Path.{_≡_}
 use mathlib.Core.List.{List}
 use Rattle.base.specs.Rows.{at, listOf}
@@ -16,9 +17,19 @@ use Rattle.flags.specs.declared.Flags.{Flags}
 use Rattle.flags.specs.Flags.{flagIn, held}
 use Rattle.forcing.specs.declared.Forced.{Forced}
 
-unfoldable pub endOf : ℕ → ℕ → ℕ → ℕ
-endOf zero n last = n
-endOf (suc _) n last = last
+-- after one task more, of which it is said whether it lacks a bound
+unfoldable pub deepen : ℕ → ℕ → ℕ → ℕ
+deepen below level zero = below
+deepen below level (suc _) = max below level
+
+unfoldable pub deepest : (ℕ → ℕ) → (ℕ → ℕ) → ℕ → ℕ
+deepest level lack zero = 0
+deepest level lack (suc n) = deepen (deepest level lack n) (level n) (lack n)
+
+-- by policy: levels end at 32
+unfoldable pub belowOf : ℕ → (ℕ → ℕ) → (ℕ → ℕ) → ℕ → ℕ
+belowOf zero level lack n = 33
+belowOf (suc _) level lack n = deepest level lack n
 
 abbrev pub givenList : System → Flags → List ℕ
 givenList s given = listOf (flagIn given) (s .count)

@@ -1,9 +1,12 @@
 // Forcing, over the rows of a table.
 ghost use mathlib.Core.Path.{_≡_};
 ghost use lib.ListN.{replicate};
+ghost use Prim.Native.Nat.{_≤_};
+ghost use Rattle.model.specs.Forcing.{lacks};
 ghost use Rattle.flags.specs.Flags.{flagIn, held};
+ghost use Rattle.rows.specs.Levels.{levelIn};
 ghost use Rattle.rows.specs.Held.{systemIn, LegalRows};
-ghost use Rattle.forcing.specs.Forced.{endOf, Ended};
+ghost use Rattle.forcing.specs.Forced.{deepen, belowOf, Ended};
 use flags::Flags;
 use rows::Head;
 
@@ -15,12 +18,43 @@ pub struct Forced {
     pub failing: u32,
 }
 
-// The tasks that may see that the last task forced became non-preemptive: under EDF all, under FP those
-// above it.
-fn end_of(policy: u32, n: usize, last: usize) -> usize
-    ensures { λ r. ⌜ r ≡ endOf policy n last ⌝ }
+// The greatest level so far, after one task more: its own counts where it is preemptive and fails.
+fn deeper(below: u32, level: u32, flag: u32, failed: u32) -> u32
+    ensures { λ r. ⌜ r ≡ deepen below level (lacks flag failed) ⌝ }
 {
-    if policy == 0 { n } else { last }
+    if flag == 0 {
+        return below;
+    }
+    if failed != 0 {
+        return below;
+    }
+    if below < level { level } else { below }
+}
+
+// Whose levels are smaller than this may see that the failing tasks became non-preemptive: under EDF all,
+// under FP those above one of them.
+fn below_of(head: Head, flags: Flags, failing: Flags) -> u32
+    requires { ⌜ head .n ≤ 32 ⌝ }
+    ensures { λ r. ⌜ r ≡ belowOf (head .policy) (levelIn (head .levels))
+        (λ i. lacks (flagIn flags i) (flagIn failing i)) (head .n) ⌝ }
+{
+    if head.policy == 0 {
+        return 33;
+    }
+    let n = head.n;
+    let mut below: u32 = 0;
+    let mut i: usize = 0;
+    while i < n {
+        let level = rows::level_at(head.levels, i);
+        below = deeper(
+            below,
+            level,
+            flags::flag_at(flags, i),
+            flags::flag_at(failing, i),
+        );
+        i += 1;
+    }
+    below
 }
 
 // Forcing: preemptive tasks are tested until each has a bound; after each test but the last, those that have
@@ -42,10 +76,10 @@ pub fn force_rows<'a>(
 {
     let n = head.n;
     let mut flags = given;
-    let mut end = n;
+    let mut below: u32 = 33;
     let mut passes: u32 = 1;
     loop {
-        passes::search_on(head, inverse, rest, cost, reach, flags, end, bounds);
+        passes::search_on(head, inverse, rest, cost, reach, flags, below, bounds);
         let failing = flags::failing_of(n, bounds);
         let last = flags::last_lacking(flags, failing);
         if last == 0 {
@@ -58,8 +92,8 @@ pub fn force_rows<'a>(
             };
         }
         let next = flags::with_failing(flags, failing);
+        below = below_of(head, flags, failing);
         flags = next;
-        end = end_of(head.policy, n, last);
         passes += 1;
     }
 }

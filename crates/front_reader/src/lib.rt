@@ -48,7 +48,8 @@ fn read_tasks<'a>(digits: &'a [u8; 256], text: &'a [u8], form: Form, head: Head)
     let mut at = 2 * form.head.size + 1;
     let mut place: u32 = 2;
     while i < n {
-        let found = line_reader::read_task(digits, &text[at..], form);
+        // These lines hold no level: task k, whose line has place k + 1, has level k.
+        let found = line_reader::read_task(digits, &text[at..], form, place - 1);
         match found {
             TaskLine::Wrong(number) => {
                 return stopped(number, place);

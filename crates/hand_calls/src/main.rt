@@ -1,5 +1,6 @@
 // Every sum done by hand of document 01, run through the planner's answers by value: the lettered cases,
-// the numbers at the borders, and the digits. The file `stdout` is written from document 01's text.
+// the numbers at the borders, and the digits; then levels. The file `stdout` is written from the documents'
+// text.
 ghost use Prim.Native.Nat.{_<_};
 use planner::Answer;
 use planner::Done;
@@ -13,16 +14,28 @@ fn task(period: u32, cost: u32, deadline: u32, flag: u32) -> Task {
         period: period,
         cost: cost,
         deadline: deadline,
+        level: 1,
     }
 }
 
-// The first three tasks of a list.
+// The same task on a level.
+fn on(t: Task, level: u32) -> Task {
+    Task {
+        flag: t.flag,
+        period: t.period,
+        cost: t.cost,
+        deadline: t.deadline,
+        level: level,
+    }
+}
+
+// The first three tasks of a list, with their places as levels.
 fn three(a: Task, b: Task, c: Task) -> [Task; 32] {
     let none = task(0, 0, 0, 0);
     let mut tasks = [none; 32];
-    tasks[0] = a;
-    tasks[1] = b;
-    tasks[2] = c;
+    tasks[0] = on(a, 1);
+    tasks[1] = on(b, 2);
+    tasks[2] = on(c, 3);
     tasks
 }
 
@@ -123,6 +136,27 @@ fn others() {
     show(b"l", planner::plan_done(b"", Job::Force, 32));
 }
 
+// Two tasks of one core on these levels.
+fn two(policy: u32, first: u32, second: u32) -> Done {
+    let each = task(6, 2, 6, 1);
+    let mut tasks = [each; 32];
+    tasks[0] = on(each, first);
+    tasks[1] = on(each, second);
+    planner::list_done(1, policy, 2, tasks, Job::Test, 32)
+}
+
+// Levels (document 02, Wish 8): shared, against the table's order, with a gap, and none.
+fn levels() {
+    show(b"levels 1 2", two(1, 1, 2));
+    show(b"levels 1 1", two(1, 1, 1));
+    show(b"levels 2 1", two(1, 2, 1));
+    show(b"levels 7 32", two(1, 7, 32));
+    show(b"levels 0 1", two(1, 0, 1));
+    show(b"levels 1 33", two(1, 1, 33));
+    show(b"levels 2 1 under EDF", two(0, 2, 1));
+    show(b"levels 1 33 under EDF", two(0, 1, 33));
+}
+
 // The numbers at the borders.
 fn borders() {
     let none = task(0, 0, 0, 0);
@@ -168,4 +202,5 @@ fn main() {
     others();
     borders();
     digits();
+    levels();
 }

@@ -6,13 +6,15 @@
 -- Assumes nothing.
 use Prim.Native.Nat.{ℕ, _/_}
 use mathlib.Core.Path.{_≡_}
+use mathlib.Core.Bool.{Bool}
 use mathlib.Core.List.{List}
 use lib.ListN.{length}
 use Rattle.planner.specs.declared.Done.{Done}
 use Rattle.planner.specs.declared.Job.{Job}
 use Rattle.planner.specs.Done.{planDone, listDone}
 use Rattle.words.specs.Word.{wordOfDone}
-use Rattle.flat.specs.Flat.{countIn, tasksIn, flatAfter}
+use Rattle.flat_tasks.specs.FlatTasks.{countIn, tasksIn}
+use Rattle.flat.specs.Flat.{flatAfter}
 use Rattle.asked.specs.declared.Asked.{Asked}
 use Rattle.told.specs.Told.{yesOf, toldOf, toldAfter}
 
@@ -31,7 +33,10 @@ pub record Heard (a : Asked) (told : List ℕ) (r : ℕ) (told′ : List ℕ) : 
 abbrev pub PlanTold : Job → List ℕ → List ℕ → List ℕ → ℕ → List ℕ → List ℕ → Type 0
 PlanTold job text old told r new told′ = Told (planDone text job (length old / 3)) old told r new told′
 
--- and of job_tasks; eskihrum_flat_test_tasks and eskihrum_flat_force_tasks likewise
-abbrev pub TasksTold : Job → ℕ → ℕ → List ℕ → List ℕ → List ℕ → ℕ → List ℕ → List ℕ → Type 0
-TasksTold job cores policy xs old told r new told′ =
-    Told (listDone cores policy (countIn (length xs)) (tasksIn xs) job (length old / 3)) old told r new told′
+-- and of job_tasks, where a task has five numbers if levels holds, else four; eskihrum_flat_test_tasks and
+-- eskihrum_flat_force_tasks promise it of four, eskihrum_flat_test_levels and eskihrum_flat_force_levels of
+-- five
+abbrev pub TasksTold : Bool → Job → ℕ → ℕ → List ℕ → List ℕ → List ℕ → ℕ → List ℕ → List ℕ → Type 0
+TasksTold levels job cores policy xs old told r new told′ =
+    Told (listDone cores policy (countIn levels (length xs)) (tasksIn levels xs) job (length old / 3)) old
+    told r new told′

@@ -26,18 +26,19 @@ pub fn job_plan(job: Job, text: &[u8], records: &mut [u32], answer: &mut [u32]) 
     tell(answer, asked)
 }
 
-// The job on cores, policy and a flat table.
+// The job on cores, policy and a flat table: five numbers to a task where the levels are given, else four.
 pub fn job_tasks(
     job: Job,
     cores: u32,
     policy: u32,
+    levels: bool,
     tasks: &[u32],
     records: &mut [u32],
     answer: &mut [u32],
 ) -> u32
-    ensures { λ r. ⌜ TasksTold job cores policy (now (tasks .entry)) (now (records .entry))
+    ensures { λ r. ⌜ TasksTold levels job cores policy (now (tasks .entry)) (now (records .entry))
         (now (answer .entry)) r (now (records .exit)) (now (answer .exit)) ⌝ }
 {
-    let asked = asked::tasks_asked(job, cores, policy, tasks, records);
+    let asked = asked::tasks_asked(job, cores, policy, levels, tasks, records);
     tell(answer, asked)
 }

@@ -42,29 +42,30 @@ pub fn read_head<'a>(digits: &'a [u8; 256], text: &'a [u8], form: Form) -> HeadL
     HeadLine::Fit(head)
 }
 
-// The task's numbers, from the part of its line after the kind byte.
-fn task_fields<'a>(digits: &'a [u8; 256], part: &'a [u8]) -> Task
+// The task's numbers, from the part of its line after the kind byte. It holds no level, which is handed in.
+fn task_fields<'a>(digits: &'a [u8; 256], part: &'a [u8], level: u32) -> Task
     requires { ⌜ (now digits ≡ digitTable) × ((26 ≤ length (now part)) × Digits (now part) 26) ⌝ }
-    ensures { λ r. ⌜ r ≡ taskOf (now (part .entry)) ⌝ }
+    ensures { λ r. ⌜ r ≡ taskOf level (now (part .entry)) ⌝ }
 {
     Task {
         flag: digits::byte(digits, part, 0),
         period: digits::word(digits, part, 1),
         cost: digits::word(digits, part, 5),
         deadline: digits::word(digits, part, 9),
+        level: level,
     }
 }
 
-// The task line that the text starts with.
-pub fn read_task<'a>(digits: &'a [u8; 256], text: &'a [u8], form: Form) -> TaskLine
+// The task line that the text starts with, as a task of the given level.
+pub fn read_task<'a>(digits: &'a [u8; 256], text: &'a [u8], form: Form, level: u32) -> TaskLine
     requires { ⌜ (now digits ≡ digitTable) × FormSized form ⌝ }
-    ensures { λ r. ⌜ r ≡ taskRead form (now (text .entry)) ⌝ }
+    ensures { λ r. ⌜ r ≡ taskRead form level (now (text .entry)) ⌝ }
 {
     let wrong = frame_reader::frame_fault(digits, text, form.task.size, form.task.kind);
     if wrong != 0 {
         return TaskLine::Wrong(wrong);
     }
-    let task = task_fields(digits, &text[2..]);
+    let task = task_fields(digits, &text[2..], level);
     let fault = table::task_fault(task);
     if fault != 0 {
         return TaskLine::Wrong(fault);

@@ -25,7 +25,8 @@ use Rattle.frames.proofs.TextLaws.{line-length}
 use Rattle.lines.specs.Form.{form1, lineStart}
 use Rattle.lines.specs.Fields.{taskOf, fieldsPart, taskText, textHead, textTask}
 use Rattle.lines.specs.Reads.{passed, withTasks, frontOf}
-use Rattle.lines.specs.Writes.{headBytes, taskBytes, tasksText, textBy, planText, ZerosPast, FrontAs}
+use Rattle.lines.specs.Writes.{headBytes, taskBytes, tasksText, textBy, planText, ZerosPast}
+use Rattle.lines.specs.Writes.{PlaceLevels, FrontAs}
 use Rattle.lines.specs.Wrong.{RightUpTo, textCount}
 use Rattle.lines.proofs.FormLaws.{start-first, start-next, start-in-bytes}
 use Rattle.lines.proofs.ReadLaws.{places}
@@ -95,7 +96,7 @@ split ts (suc n) i l =
 regroup : (a b c d e : List ℕ) → a ++ ((b ++ (c ++ d)) ++ e) ≡ (a ++ b) ++ (c ++ (d ++ e))
 regroup a b c d e = simp append-assoc
 
-module _ (t : Table) (rest : List ℕ) (legal : LegalTable t) where
+module _ (t : Table) (rest : List ℕ) (legal : LegalTable t) (levels : PlaceLevels t) where
   -- a text that goes on after the table's
   text : List ℕ
   text = planText t ++ rest
@@ -122,7 +123,8 @@ module _ (t : Table) (rest : List ℕ) (legal : LegalTable t) where
 
   task-of : (i : ℕ) → i < t .n → textTask form1 text i ≡ taskAt (t .tasks) i
   task-of i l =
-      ap (λ x. taskOf (fieldsPart x)) (line-of i l) ∙ task-there (taskAt (t .tasks) i) _ (legal .each i l)
+      ap₂ (λ k x. taskOf k (fieldsPart x)) (sym (levels i l)) (line-of i l)
+      ∙ task-there (taskAt (t .tasks) i) _ (legal .each i l)
 
   count-of : textCount text ≡ t .n
   count-of = ap (λ (h : Table). h .n) head-of
@@ -174,7 +176,7 @@ module _ (s : List ℕ) (up : RightUpTo form1 s (textCount s)) where
       → take 31 (drop (lineStart form1 k) (raised s)) ≡ lineText (taskBytes form1 (taskAt (read .tasks) k))
   task-start k l =
       ap (take 31) (raised-drop (lineStart form1 k) s)
-      ∙ task-line-back (taskText form1 s k) (up .tasks k l .frame)
+      ∙ task-line-back (k + 1) (taskText form1 s k) (up .tasks k l .frame)
       ∙ ap (λ t. lineText (taskBytes form1 t)) (sym (read-at k l))
 
   -- the text up to the line of task k is the written text up to it
@@ -204,6 +206,10 @@ module _ (s : List ℕ) (up : RightUpTo form1 s (textCount s)) where
         (le-or-lt 32 i);
   }
 
+  read-levels : PlaceLevels read
+  unfolding withTasks taskOf
+  read-levels i l = ap (λ (x : Task). x .level) (read-at i l)
+
   pub front-back : FrontAs s read (lineStart form1 (textCount s))
   unfolding withTasks textBy
   front-back = record {
@@ -216,6 +222,7 @@ module _ (s : List ℕ) (up : RightUpTo form1 s (textCount s)) where
       each = λ i l. subst LegalTask (sym (read-at i l)) (up .tasks i l .fields);
     };
     zeros = read-zeros;
+    levels = read-levels;
     ends = refl;
     same = prefix (textCount s) (omega arith);
   }

@@ -31,9 +31,10 @@ pub head-line-back : (s : List ℕ) → HeadFrame form1 s
     → take 11 (raised s) ≡ lineText (headBytes form1 (textHead s))
 head-line-back s r = line-back s 4 1 r ∙ ap lineText (head-bytes s (r .due))
 
-task-bytes : (s : List ℕ) → TaskFrame form1 s → listOf (byteAt s) 14 ≡ taskBytes form1 (taskOf (fieldsPart s))
+task-bytes : (level : ℕ) (s : List ℕ) → TaskFrame form1 s
+    → listOf (byteAt s) 14 ≡ taskBytes form1 (taskOf level (fieldsPart s))
 unfolding listFrom taskBytes form1 taskOf
-task-bytes s r =
+task-bytes level s r =
     rw (
       word-back (fieldsPart s) 1 (word 1 (omega arith)),
       word-back (fieldsPart s) 5 (word 5 (omega arith)),
@@ -60,9 +61,9 @@ task-bytes s r =
     word i l =
         word-bytes (fieldsPart s) i (part-digits s 2 (2 * i + 8) (λ j m. r .text .each j (omega arith)))
 
-pub task-line-back : (s : List ℕ) → TaskFrame form1 s
-    → take 31 (raised s) ≡ lineText (taskBytes form1 (taskOf (fieldsPart s)))
-task-line-back s r = line-back s 14 2 r ∙ ap lineText (task-bytes s r)
+pub task-line-back : (level : ℕ) (s : List ℕ) → TaskFrame form1 s
+    → take 31 (raised s) ≡ lineText (taskBytes form1 (taskOf level (fieldsPart s)))
+task-line-back level s r = line-back s 14 2 r ∙ ap lineText (task-bytes level s r)
 
 -- The text of legal fields reads as them.
 
@@ -122,7 +123,7 @@ module _ (t : Task) (rest : List ℕ) (legal : LegalTask t) where
   unfolding taskBytes wordBytes
   task-field i l = sym (byte-next _ i) ∙ line-byte (taskBytes form1 t) rest task-all (i + 1) (omega arith)
 
-  pub task-there : taskOf (fieldsPart (lineText (taskBytes form1 t) ++ rest)) ≡ t
+  pub task-there : taskOf (t .level) (fieldsPart (lineText (taskBytes form1 t) ++ rest)) ≡ t
   unfolding taskOf taskBytes wordBytes
   task-there =
       let p : List ℕ = fieldsPart (lineText (taskBytes form1 t) ++ rest) in

@@ -28,7 +28,7 @@ use Rattle.frames.proofs.AlikeLaws.{raised-alike}
 use Rattle.lines.specs.Form.{form1}
 use Rattle.lines.specs.Fields.{taskText}
 use Rattle.lines.specs.Reads.{refused, accepted, frontOf, readOf}
-use Rattle.lines.specs.Writes.{planText, ZerosPast}
+use Rattle.lines.specs.Writes.{planText, ZerosPast, PlaceLevels}
 use Rattle.lines.specs.Wrong.{RightUpTo, textCount, head-frame, task-frame, in-front}
 use Rattle.lines.proofs.RefusalLaws.{wrong-refused}
 use Rattle.lines.proofs.SettledLaws.{front-alike, reading-alike}
@@ -49,8 +49,9 @@ pub raised-only : (s u : List ℕ) (t : Table) → readOf s ≡ accepted t → r
     → raised s ≡ raised u
 raised-only s u t p q = reading-exact s t .0 p .same ∙ sym (reading-exact u t .0 q .same)
 
-pub text-raised : (t : Table) → LegalTable t → ZerosPast t → raised (planText t) ≡ planText t
-text-raised t legal zeros = reading-exact (planText t) t .0 (text-accepted t legal zeros) .same
+pub text-raised : (t : Table) → LegalTable t → ZerosPast t → PlaceLevels t → raised (planText t) ≡ planText t
+text-raised t legal zeros levels =
+    reading-exact (planText t) t .0 (text-accepted t legal zeros levels) .same
 
 pub head-two : (s : List ℕ) (i : ℕ) → i < 10 → 10 < length s → digitAt s i ≡ 255 → readOf s ≡ refused 2 1
 head-two s i l long e = wrong-refused (in-front (head-frame (no-digit long i l e)))
@@ -85,7 +86,17 @@ sample-zeros = record { places = refl; zeros = past }
         ⊎-elim (λ (h : 30 ≤ i). List·getD-eq-default (replicate 30 noTask) noTask h)
         (λ (h : i < 30). getD-replicate 30 i noTask noTask h) (le-or-lt 30 i)
 
+sample-levels : PlaceLevels sample
+sample-levels zero l = refl
+sample-levels (suc zero) l = refl
+sample-levels (suc (suc i)) l = absurd (let z : ⊥ = omega arith in z)
+
 pub mixed-read : readOf mixed-text ≡ accepted sample
 mixed-read =
     reading-exact mixed-text sample .1
-    (record { legal = sample-legal; zeros = sample-zeros; same = mixed-raised ∙ sym sample-written })
+    (record {
+      legal = sample-legal;
+      zeros = sample-zeros;
+      levels = sample-levels;
+      same = mixed-raised ∙ sym sample-written;
+    })

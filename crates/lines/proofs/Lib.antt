@@ -1,4 +1,5 @@
 pub mod FormLaws
+pub mod LevelLaws
 pub mod LineLaws
 pub mod ReadLaws
 pub mod RefusalLaws

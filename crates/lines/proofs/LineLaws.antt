@@ -50,14 +50,14 @@ module _ (f : Form) (s : List ℕ) where
   unfolding headLineFault
   head-fields-fault x right e = fault-after (headFrameFault f s) _ right ∙ sym e
 
-  pub task-frame-fault : (x : ℕ) → x ≡ taskFrameFault f s → (x ≡ 0 → ⊥) → taskLineFault f s ≡ x
+  pub task-frame-fault : (level x : ℕ) → x ≡ taskFrameFault f s → (x ≡ 0 → ⊥) → taskLineFault f level s ≡ x
   unfolding taskLineFault
-  task-frame-fault x e some = rw (← e) (fault-here x _ some)
+  task-frame-fault level x e some = rw (← e) (fault-here x _ some)
 
-  pub task-fields-fault : (x : ℕ) → taskFrameFault f s ≡ 0 → x ≡ taskFault (taskOf (fieldsPart s))
-      → taskLineFault f s ≡ x
+  pub task-fields-fault : (level x : ℕ) → taskFrameFault f s ≡ 0 → x ≡ taskFault (taskOf level (fieldsPart s))
+      → taskLineFault f level s ≡ x
   unfolding taskLineFault
-  task-fields-fault x right e = fault-after (taskFrameFault f s) _ right ∙ sym e
+  task-fields-fault level x right e = fault-after (taskFrameFault f s) _ right ∙ sym e
 
   pub head-line-frame : headLineFault f s ≡ 0 → HeadFrame f s
   unfolding headLineFault
@@ -67,9 +67,10 @@ module _ (f : Form) (s : List ℕ) where
   unfolding headLineFault
   head-line-right e = fault-none (headFrameFault f s) _ e .1
 
-  pub task-line-frame : taskLineFault f s ≡ 0 → TaskFrame f s
+  pub task-line-frame : (level : ℕ) → taskLineFault f level s ≡ 0 → TaskFrame f s
   unfolding taskLineFault
-  task-line-frame e = frame-right s (f .task .size) (f .task .kind) (fault-none (taskFrameFault f s) _ e .0)
+  task-line-frame level e =
+      frame-right s (f .task .size) (f .task .kind) (fault-none (taskFrameFault f s) _ e .0)
 
 module _ (s : List ℕ) (size kind : ℕ) (e : frameFault s size kind ≡ 0) where
   -- the fields of a right line are there
@@ -125,17 +126,19 @@ module _ (f : Form) (s : List ℕ) (h : Head) (right : headFrameFault f s ≡ 0)
         ∙ answer-right (Fit (numbersOf (textHead s))) Unfit (headLineFault f s) (fields-fault x g ∙ none)
 
 -- a task line whose frame is right answers its task, or the fault of its fields
-module _ (f : Form) (s : List ℕ) (t : Task) (right : taskFrameFault f s ≡ 0) (e : t ≡ taskOf (fieldsPart s))
+module _ (f : Form) (level : ℕ) (s : List ℕ) (t : Task) (right : taskFrameFault f s ≡ 0)
+    (e : t ≡ taskOf level (fieldsPart s))
   where
     pub fields-wrong : (x : ℕ) → x ≡ taskFault t → (x ≡ 0 → ⊥)
-        → Wrong x ≡ taskAnswer (taskOf (fieldsPart s)) (taskLineFault f s)
+        → Wrong x ≡ taskAnswer (taskOf level (fieldsPart s)) (taskLineFault f level s)
     fields-wrong x g some =
-        let l : taskLineFault f s ≡ x = task-fields-fault f s x right (g ∙ ap taskFault e) in
-        answer-wrong (Right (taskOf (fieldsPart s))) Wrong (taskLineFault f s) x l (λ z. some (sym l ∙ z))
+        let l : taskLineFault f level s ≡ x = task-fields-fault f s level x right (g ∙ ap taskFault e) in
+        answer-wrong (Right (taskOf level (fieldsPart s))) Wrong (taskLineFault f level s) x l
+        (λ z. some (sym l ∙ z))
 
     pub fields-right : (x : ℕ) → x ≡ taskFault t → x ≡ 0
-        → Right t ≡ taskAnswer (taskOf (fieldsPart s)) (taskLineFault f s)
+        → Right t ≡ taskAnswer (taskOf level (fieldsPart s)) (taskLineFault f level s)
     fields-right x g none =
         ap Right e
-        ∙ answer-right (Right (taskOf (fieldsPart s))) Wrong (taskLineFault f s)
-        (task-fields-fault f s x right (g ∙ ap taskFault e) ∙ none)
+        ∙ answer-right (Right (taskOf level (fieldsPart s))) Wrong (taskLineFault f level s)
+        (task-fields-fault f s level x right (g ∙ ap taskFault e) ∙ none)

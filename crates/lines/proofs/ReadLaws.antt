@@ -117,7 +117,7 @@ module _ (f : Form) (s : List ℕ) (h : Table) where
     progress-inside right =
         omega (
           arith,
-          task-line-frame f (taskText f s i) right .text .long,
+          task-line-frame f (taskText f s i) (i + 1) right .text .long,
           length-drop (lineStart f i) s,
           p .here,
         )
@@ -143,26 +143,32 @@ module _ (f : Form) (s : List ℕ) (h : Table) where
 
     -- by the answer of the line at hand
     module _ (x : List ℕ) (r : TaskLine) (same : x ≡ drop at s)
-        (e : r ≡ taskAnswer (taskOf (fieldsPart x)) (taskLineFault f x)) (l : i < h .n) where
+        (level : ℕ) (due : level ≡ i + 1)
+        (e : r ≡ taskAnswer (taskOf level (fieldsPart x)) (taskLineFault f level x)) (l : i < h .n) where
       here-is : x ≡ taskText f s i
       here-is = same ∙ ap (λ k. drop k s) (p .here)
 
+      fault-is : taskLineFault f level x ≡ lineFault f s i
+      fault-is = ap₂ (taskLineFault f) due here-is
+
       pub progress-wrong : (y : ℕ) → r ≡ Wrong y → stopped y place ≡ tasksRead f s h
       progress-wrong y w =
-          let a : (taskLineFault f x ≡ y) × (y ≡ 0 → ⊥) =
-          wrong-answer (taskOf (fieldsPart x)) _ y (sym e ∙ w)
+          let a : (taskLineFault f level x ≡ y) × (y ≡ 0 → ⊥) =
+          wrong-answer (taskOf level (fieldsPart x)) _ y (sym e ∙ w)
           in
           ap (stopped y) (p .line)
-          ∙ sym (task-stopped f s h i y (p .before) l (ap (taskLineFault f) (sym here-is) ∙ a .0) (a .1))
+          ∙ sym (task-stopped f s h i y (p .before) l (sym fault-is ∙ a .0) (a .1))
 
       pub progress-right : (t : Task) → r ≡ Right t
           → Progress f s h (set tasks i t) (i + 1) (at + lineLength (f .task .size)) (place + 1)
       progress-right t w =
-          let a : (taskLineFault f x ≡ 0) × (t ≡ taskOf (fieldsPart x)) = right-answer _ _ t (sym e ∙ w) in
+          let a : (taskLineFault f level x ≡ 0) × (t ≡ taskOf level (fieldsPart x)) =
+          right-answer _ _ t (sym e ∙ w)
+          in
           subst
           (λ (u : Task). Progress f s h (set tasks i u) (i + 1) (at + lineLength (f .task .size)) (place + 1))
-          (sym (a .1 ∙ ap (λ y. taskOf (fieldsPart y)) here-is))
-          (progress-step l (ap (taskLineFault f) (sym here-is) ∙ a .0))
+          (sym (a .1 ∙ ap₂ (λ k y. taskOf k (fieldsPart y)) due here-is))
+          (progress-step l (sym fault-is ∙ a .0))
 
 -- By the answer of the head line.
 module _ (f : Form) (s : List ℕ) (r : HeadLine) (e : r ≡ headRead f s) where

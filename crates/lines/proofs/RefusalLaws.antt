@@ -40,8 +40,9 @@ module _ {f : Form} where
   right-head-line : {s : List ℕ} → HeadRight f s → headLineFault f s ≡ 0
   right-head-line {s} r = head-fields-fault f s 0 (right-frame (r .frame)) (sym (right-head (r .fields)))
 
-  right-task-line : {s : List ℕ} → TaskRight f s → taskLineFault f s ≡ 0
-  right-task-line {s} r = task-fields-fault f s 0 (right-frame (r .frame)) (sym (right-task _ (r .fields)))
+  right-task-line : {level : ℕ} {s : List ℕ} → TaskRight f level s → taskLineFault f level s ≡ 0
+  right-task-line {level} {s} r =
+      task-fields-fault f s level 0 (right-frame (r .frame)) (sym (right-task _ (r .fields)))
 
   right-lines : {s : List ℕ} {i : ℕ} → RightUpTo f s i → NoneTo (wrongLine f s) i
   right-lines {s} up j l = line-right f s j (right-task-line (up .tasks j l))
@@ -59,11 +60,12 @@ module _ {f : Form} where
       let some : x ≡ 0 → ⊥ = not-zero (wrong-some w) in
       head-passed f s (right-head-line (up .head))
       ∙ task-stopped f s (textHead s) i x (right-lines up) l
-      (task-frame-fault f (taskText f s i) x (sym (wrong-frame w)) some) some
+      (task-frame-fault f (taskText f s i) (i + 1) x (sym (wrong-frame w)) some) some
   front-stopped {s} {x} (task-fields i up l r w) =
       head-passed f s (right-head-line (up .head))
       ∙ task-stopped f s (textHead s) i x (right-lines up) l
-      (task-fields-fault f (taskText f s i) x (right-frame r) (sym (wrong-task w))) (not-zero (task-some w))
+      (task-fields-fault f (taskText f s i) (i + 1) x (right-frame r) (sym (wrong-task w)))
+      (not-zero (task-some w))
 
   -- A front with no fault is passed.
 
@@ -75,33 +77,35 @@ module _ {f : Form} where
 -- Every front is right, or meets a fault.
 
 module _ (f : Form) where
-  abbrev TaskLineWrong : List ℕ → ℕ → Type 0
-  TaskLineWrong s x =
-      FrameWrong s (f .task .size) (f .task .kind) x ⊎ (TaskFrame f s × TaskWrong (taskOf (fieldsPart s)) x)
+  abbrev TaskLineWrong : ℕ → List ℕ → ℕ → Type 0
+  TaskLineWrong level s x =
+      FrameWrong s (f .task .size) (f .task .kind) x
+      ⊎ (TaskFrame f s × TaskWrong (taskOf level (fieldsPart s)) x)
 
-  task-line-cases : (s : List ℕ) → TaskRight f s ⊎ ((x : ℕ) × TaskLineWrong s x)
-  task-line-cases s =
+  task-line-cases : (level : ℕ) (s : List ℕ) → TaskRight f level s ⊎ ((x : ℕ) × TaskLineWrong level s x)
+  task-line-cases level s =
       ⊎-elim
       (λ r. ⊎-elim (λ l. inl (record { frame = r; fields = l })) (λ w. inr (w .0, inr (r, w .1)))
-      (task-cases (taskOf (fieldsPart s))))
+      (task-cases (taskOf level (fieldsPart s))))
       (λ w. inr (w .0, inl (w .1)))
       (frame-cases s (f .task .size) (f .task .kind))
 
   record FirstWrong (s : List ℕ) (n : ℕ) : Type 0 where
     pub place : ℕ
     pub low : place < n
-    pub before : (j : ℕ) → j < place → TaskRight f (taskText f s j)
+    pub before : (j : ℕ) → j < place → TaskRight f (j + 1) (taskText f s j)
     pub number : ℕ
-    pub fault : TaskLineWrong (taskText f s place) number
+    pub fault : TaskLineWrong (place + 1) (taskText f s place) number
 
-  first-wrong : (s : List ℕ) (n : ℕ) → ((j : ℕ) → j < n → TaskRight f (taskText f s j)) ⊎ FirstWrong s n
-  first-wrong s zero = inl (below-none (λ j. TaskRight f (taskText f s j)))
+  first-wrong : (s : List ℕ) (n : ℕ) → ((j : ℕ) → j < n → TaskRight f (j + 1) (taskText f s j))
+      ⊎ FirstWrong s n
+  first-wrong s zero = inl (below-none (λ j. TaskRight f (j + 1) (taskText f s j)))
   first-wrong s (suc n) =
       ⊎-elim
       (λ all. ⊎-elim
-      (λ r. inl (λ j l. below-next (λ i. TaskRight f (taskText f s i)) n all r j (omega arith)))
+      (λ r. inl (λ j l. below-next (λ i. TaskRight f (i + 1) (taskText f s i)) n all r j (omega arith)))
       (λ w. inr (record { place = n; low = omega arith; before = all; number = w .0; fault = w .1 }))
-      (task-line-cases (taskText f s n)))
+      (task-line-cases (n + 1) (taskText f s n)))
       (λ w. inr (record {
         place = w .place;
         low = omega (arith, w .low);

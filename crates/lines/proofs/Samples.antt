@@ -13,15 +13,15 @@ use Rattle.lines.specs.Fields.{headLineFault}
 use Rattle.lines.specs.Reads.{refused, frontBy, readOf}
 use Rattle.lines.specs.Writes.{headBytes, taskBytes, tasksText, textBy, planText}
 
--- One core, FP, (12, 4, 12, P) and (24, 9, 18, P).
+-- One core, FP, (12, 4, 12, P) and (24, 9, 18, P), with the places as levels.
 abbrev pub sample : Table
 sample = record {
   cores = 1;
   policy = 1;
   n = 2;
   tasks =
-      record { flag = 1; period = 12; cost = 4; deadline = 12 }
-      ∷ record { flag = 1; period = 24; cost = 9; deadline = 18 }
+      record { flag = 1; period = 12; cost = 4; deadline = 12; level = 1 }
+      ∷ record { flag = 1; period = 24; cost = 9; deadline = 18; level = 2 }
       ∷ replicate 30 noTask;
 }
 

@@ -37,9 +37,9 @@ module _ {n : ℕ} {a b : List ℕ} (s : ReadAlike n a b) where
       let p : ReadAlike 6 (drop 2 a) (drop 2 b) = drop-alike 2 6 s (omega arith) in
       rw (byte-alike p 0 (omega arith), byte-alike p 1 (omega arith), byte-alike p 2 (omega arith))
 
-  task-alike : 31 ≤ n → taskOf (drop 2 a) ≡ taskOf (drop 2 b)
+  task-alike : (level : ℕ) → 31 ≤ n → taskOf level (drop 2 a) ≡ taskOf level (drop 2 b)
   unfolding taskOf
-  task-alike h =
+  task-alike level h =
       let p : ReadAlike 29 (drop 2 a) (drop 2 b) = drop-alike 2 29 s (omega arith) in
       rw (
         byte-alike p 0 (omega arith),
@@ -48,9 +48,9 @@ module _ {n : ℕ} {a b : List ℕ} (s : ReadAlike n a b) where
         word-alike p 9 (omega arith),
       )
 
-  task-line-alike : 31 ≤ n → taskLineFault form1 a ≡ taskLineFault form1 b
+  task-line-alike : (level : ℕ) → 31 ≤ n → taskLineFault form1 level a ≡ taskLineFault form1 level b
   unfolding taskLineFault
-  task-line-alike h = rw (frame-alike s 15 2 (omega arith) (omega arith), task-alike h)
+  task-line-alike level h = rw (frame-alike s 15 2 (omega arith) (omega arith), task-alike level h)
 
   head-line-alike : 11 ≤ n → headLineFault form1 a ≡ headLineFault form1 b
   unfolding headLineFault
@@ -61,7 +61,7 @@ module _ {a b : List ℕ} (s : ReadAlike 1003 a b) where
   line-alike i h = drop-alike (lineStart form1 i) 31 s (omega (arith, start-in-bytes i))
 
   fault-alike : (i : ℕ) → i < 32 → lineFault form1 a i ≡ lineFault form1 b i
-  fault-alike i h = task-line-alike (line-alike i h) (omega arith)
+  fault-alike i h = task-line-alike (line-alike i h) (i + 1) (omega arith)
 
   place-alike : (n : ℕ) → n ≤ 32 → wrongTask form1 a n ≡ wrongTask form1 b n
   unfolding wrongTask
@@ -82,7 +82,7 @@ module _ {a b : List ℕ} (s : ReadAlike 1003 a b) where
     unfolding withTasks
     by-place zero e =
         rw (row-same noTask (textTask form1 a) (textTask form1 b) (h .n) small
-        (λ j lt. task-alike (line-alike j (omega arith)) (omega arith)))
+        (λ j lt. task-alike (line-alike j (omega arith)) (j + 1) (omega arith)))
     by-place (suc i) e =
         ap (λ x. stopped x (i + 2)) (fault-alike i (omega (arith, place-small (h .n) i e)))
 

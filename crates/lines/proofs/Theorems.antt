@@ -4,7 +4,7 @@
 --   documents 01 and 02                                              theorem
 --   accepts exactly the texts that are, raised, what a legal table
 --   is written as, and returns that table, with zeros in all places
---   past the n-th                                                    reading-exact, text-accepted
+--   past the n-th, and its places as levels (Wish 8)                 reading-exact, text-accepted
 --   the same of a front, whatever follows it                         front-exact
 --   one text, one table                                              text-only
 --   a refusal is given exactly when its row of the table says so     refusal-exact
@@ -22,8 +22,10 @@ use native.Mathlib.Omega.{arith}
 use mathlib.Core.Path.{_≡_, refl, sym, ap, subst, _∙_}
 use mathlib.Core.Logic.{_↔_, _⊎_, inl, inr, ⊎-elim}
 use mathlib.Core.List.{List, [], _++_, append-nil}
-use lib.ListN.{length, take, drop, replicate, getD-replicate, List·getD-eq-default, take-append-drop}
+use lib.ListN.{length, take, drop, List·getD-eq-default, take-append-drop}
 use lib.Seq.{take-all}
+use Rattle.base.specs.Rows.{row}
+use Rattle.base.proofs.RowLaws.{row-at, row-length}
 use Rattle.table.specs.declared.Task.{Task}
 use Rattle.table.specs.declared.Table.{Table}
 use Rattle.table.specs.declared.Refusal.{Refusal}
@@ -32,7 +34,7 @@ use Rattle.table.specs.declared.Checked.the-variants.{Fine, Refused}
 use Rattle.table.specs.Table.{noTask, LegalTask, LegalTable}
 use Rattle.table.specs.Checks.{faulty}
 use Rattle.table.specs.Faults.{Within, HeadWrong, cores, policy, count, TaskWrong, flag, period}
-use Rattle.table.specs.Faults.{deadline, cost}
+use Rattle.table.specs.Faults.{deadline, cost, level}
 use Rattle.frames.specs.Digits.{raised}
 use Rattle.frames.specs.Faults.{FrameWrong, short, no-digit, no-end, no-sum, no-kind}
 use Rattle.frames.proofs.DigitLaws.{raised-length}
@@ -40,8 +42,9 @@ use Rattle.frames.proofs.AlikeLaws.{raised-alike, cut-alike}
 use Rattle.lines.specs.declared.Front.{Front}
 use Rattle.lines.specs.declared.Reading.{Reading}
 use Rattle.lines.specs.Form.{form1, lineStart}
+use Rattle.lines.specs.Fields.{taskOf}
 use Rattle.lines.specs.Reads.{noTable, refused, accepted, passed, numberOf, placeOf, frontOf, readOf}
-use Rattle.lines.specs.Writes.{planText, ZerosPast, WrittenAs, FrontAs}
+use Rattle.lines.specs.Writes.{planText, ZerosPast, PlaceLevels, WrittenAs, FrontAs}
 use Rattle.lines.specs.Wrong.{head-frame, head-fields, task-frame, task-fields, TextWrong}
 use Rattle.lines.specs.Wrong.{in-front, more, textCount}
 use Rattle.lines.proofs.FormLaws.{start-in-bytes}
@@ -55,10 +58,11 @@ not-fine e = let z : _≡_ {A = ℕ} 0 1 = cc in omega arith
 
 -- A text is accepted exactly if, raised, it is the text of a legal table.
 
-pub text-accepted : (t : Table) → LegalTable t → ZerosPast t → readOf (planText t) ≡ accepted t
-text-accepted t legal zeros =
+pub text-accepted : (t : Table) → LegalTable t → ZerosPast t → PlaceLevels t
+    → readOf (planText t) ≡ accepted t
+text-accepted t legal zeros levels =
     sym (plan-read (planText t) (passed t (lineStart form1 (t .n)))
-    (sym (ap frontOf (sym (append-nil (planText t))) ∙ exact.front-there t [] legal zeros))
+    (sym (ap frontOf (sym (append-nil (planText t))) ∙ exact.front-there t [] legal levels zeros))
     refl (omega (arith, exact.plan-text-length t)))
 
 pub front-exact : (s : List ℕ) (t : Table) (end : ℕ) → (frontOf s ≡ passed t end) ↔ FrontAs s t end
@@ -77,7 +81,7 @@ front-exact s t end = (there, back)
     back w =
         sym (settled.front-alike (raised-alike 1003 s))
         ∙ ap frontOf (sym (take-append-drop end (raised s)) ∙ ap (λ x. x ++ drop end (raised s)) (w .same))
-        ∙ exact.front-there t (drop end (raised s)) (w .legal) (w .zeros)
+        ∙ exact.front-there t (drop end (raised s)) (w .legal) (w .levels) (w .zeros)
         ∙ ap (passed t) (sym (w .ends))
 
 pub reading-exact : (s : List ℕ) (t : Table) → (readOf s ≡ accepted t) ↔ WrittenAs s t
@@ -91,6 +95,7 @@ reading-exact s t = (there, back)
         (record {
           legal = front .legal;
           zeros = front .zeros;
+          levels = front .levels;
           same =
               sym (take-all (lineStart form1 (textCount s)) (raised s)
               (omega (arith, w .end, raised-length s)))
@@ -101,12 +106,12 @@ reading-exact s t = (there, back)
     back w =
         sym (settled.reading-alike (raised-alike 1004 s))
         ∙ ap readOf (w .same)
-        ∙ text-accepted t (w .legal) (w .zeros)
+        ∙ text-accepted t (w .legal) (w .zeros) (w .levels)
 
-pub text-only : (t u : Table) → LegalTable t → ZerosPast t → LegalTable u → ZerosPast u
-    → planText t ≡ planText u → t ≡ u
-text-only t u lt zt lu zu e =
-    ap (λ (r : Reading). r .table) (sym (text-accepted t lt zt) ∙ ap readOf e ∙ text-accepted u lu zu)
+pub text-only : (t u : Table) → LegalTable t → ZerosPast t → PlaceLevels t → LegalTable u → ZerosPast u
+    → PlaceLevels u → planText t ≡ planText u → t ≡ u
+text-only t u lt zt pt lu zu pu e =
+    ap (λ (r : Reading). r .table) (sym (text-accepted t lt zt pt) ∙ ap readOf e ∙ text-accepted u lu zu pu)
 
 pub refusal-exact : (s : List ℕ) (x p : ℕ) → (readOf s ≡ refused x p) ↔ TextWrong s x p
 refusal-exact s x p = (refusals.refused-wrong s x p, refusals.wrong-refused)
@@ -136,17 +141,22 @@ head-numbers (cores o) = (omega arith, omega arith)
 head-numbers (policy a o) = (omega arith, omega arith)
 head-numbers (count a b o) = (omega arith, omega arith)
 
-task-numbers : {t : Task} {f : ℕ} → TaskWrong t f → Within 1 12 f
-task-numbers (flag o) = (omega arith, omega arith)
-task-numbers (period a o) = (omega arith, omega arith)
-task-numbers (deadline a b o) = (omega arith, omega arith)
-task-numbers (cost a b d o) = (omega arith, omega arith)
+-- a place is a legal level
+task-numbers : {t : Task} {f : ℕ} → Within 1 32 (t .level) → TaskWrong t f → Within 1 12 f
+task-numbers h (flag o) = (omega arith, omega arith)
+task-numbers h (period a o) = (omega arith, omega arith)
+task-numbers h (deadline a b o) = (omega arith, omega arith)
+task-numbers h (cost a b d o) = (omega arith, omega arith)
+task-numbers h (level a b d e o) =
+    absurd (⊎-elim (λ w. let z : ⊥ = omega arith in z) (λ w. let z : ⊥ = omega arith in z) o)
 
 pub wrong-numbers : {s : List ℕ} {x p : ℕ} → TextWrong s x p → Within 1 12 x
+unfolding taskOf
 wrong-numbers (in-front (head-frame w)) = frame-numbers w
 wrong-numbers (in-front (head-fields r w)) = head-numbers w
 wrong-numbers (in-front (task-frame i up l w)) = frame-numbers w
-wrong-numbers (in-front (task-fields i up l r w)) = task-numbers w
+wrong-numbers (in-front (task-fields i up l r w)) =
+    task-numbers (omega arith, omega (arith, up .head .fields .count)) w
 wrong-numbers (more up l) = (omega arith, omega arith)
 
 pub wrong-places : {s : List ℕ} {x p : ℕ} → TextWrong s x p → p ≤ 34
@@ -198,11 +208,11 @@ plan-length s t e =
 pub longest-plan : (s : List ℕ) (t : Table) → readOf s ≡ accepted t → length s ≤ 1003
 longest-plan s t e = omega (arith, plan-length s t e, reading-exact s t .0 e .legal .count)
 
-pub leastTask : Task
-leastTask = record { flag = 0; period = 1; cost = 1; deadline = 1 }
+pub leastTask : ℕ → Task
+leastTask i = record { flag = 0; period = 1; cost = 1; deadline = 1; level = i + 1 }
 
 pub longestTable : Table
-longestTable = record { cores = 1; policy = 0; n = 32; tasks = replicate 32 leastTask }
+longestTable = record { cores = 1; policy = 0; n = 32; tasks = row noTask leastTask 32 }
 
 longest-legal : LegalTable longestTable
 unfolding longestTable leastTask
@@ -213,22 +223,30 @@ longest-legal = record {
   some-task = omega arith;
   count = omega arith;
   each = λ i l.
-      subst LegalTask (sym (getD-replicate 32 i leastTask noTask l))
+      subst LegalTask (sym (row-at noTask leastTask 32 i l (omega arith)))
       (record {
         flag = omega arith;
         period = omega arith;
         deadline = omega arith;
         cost = omega arith;
         some = omega arith;
+        some-level = omega arith;
+        level = omega arith;
       });
 }
 
 longest-zeros : ZerosPast longestTable
 unfolding longestTable
 longest-zeros = record {
-  places = refl;
-  zeros = λ i l. List·getD-eq-default (replicate 32 leastTask) noTask l;
+  places = row-length noTask leastTask 32;
+  zeros = λ i l.
+      List·getD-eq-default (row noTask leastTask 32) noTask
+      (let y : length (row noTask leastTask 32) ≤ i = omega (arith, row-length noTask leastTask 32) in y);
 }
+
+longest-levels : PlaceLevels longestTable
+unfolding longestTable leastTask
+longest-levels i l = ap (λ (x : Task). x .level) (row-at noTask leastTask 32 i l (omega arith))
 
 -- a plan of 1,003 bytes is accepted
 pub longest-plan-reached : (length (planText longestTable) ≡ 1003)
@@ -236,7 +254,7 @@ pub longest-plan-reached : (length (planText longestTable) ≡ 1003)
 unfolding longestTable
 longest-plan-reached = (
   exact.plan-text-length longestTable ∙ start-in-bytes 32,
-  text-accepted longestTable longest-legal longest-zeros,
+  text-accepted longestTable longest-legal longest-zeros longest-levels,
 )
 
 -- What is read is settled by the first bytes of a text: its front by 1,003, its reading by 1,004.

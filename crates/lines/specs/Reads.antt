@@ -74,8 +74,8 @@ headRead f s = headAnswer (numbersOf (textHead s)) (headLineFault f s)
 abbrev pub taskAnswer : Task → ℕ → TaskLine
 taskAnswer t fault = orElse fault (Right t) (λ f. Wrong (suc f))
 
-abbrev pub taskRead : Form → List ℕ → TaskLine
-taskRead f s = taskAnswer (taskOf (fieldsPart s)) (taskLineFault f s)
+abbrev pub taskRead : Form → ℕ → List ℕ → TaskLine
+taskRead f level s = taskAnswer (taskOf level (fieldsPart s)) (taskLineFault f level s)
 
 -- a table with the tasks of the first k task lines
 unfoldable pub withTasks : Form → Table → List ℕ → ℕ → Table

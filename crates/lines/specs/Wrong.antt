@@ -1,7 +1,7 @@
 -- Document 01, "Numbered refusals", in its own words: which refusal a text meets first, and at which place.
 --
 --   document 01                                                here
---   a head line, a task line with no fault                     HeadRight f s, TaskRight f s
+--   a head line, a task line with no fault                     HeadRight f s, TaskRight f level s
 --   1 to 7 in the head line, place 1                           head-frame, head-fields
 --   1 to 4, 8 to 11 in a task line, place i + 1 of task i      task-frame, task-fields (i from 0 here)
 --   12 after the last line, place n + 2                        more
@@ -29,9 +29,9 @@ pub record HeadRight (f : Form) (s : List ℕ) : Type 0 where
   pub frame : HeadFrame f s
   pub fields : LegalHead (textHead s)
 
-pub record TaskRight (f : Form) (s : List ℕ) : Type 0 where
+pub record TaskRight (f : Form) (level : ℕ) (s : List ℕ) : Type 0 where
   pub frame : TaskFrame f s
-  pub fields : LegalTask (taskOf (fieldsPart s))
+  pub fields : LegalTask (taskOf level (fieldsPart s))
 
 -- the number of tasks that the head line says
 abbrev pub textCount : List ℕ → ℕ
@@ -40,7 +40,7 @@ textCount s = textHead s .n
 -- the head line and the lines of the first i tasks are right
 pub record RightUpTo (f : Form) (s : List ℕ) (i : ℕ) : Type 0 where
   pub head : HeadRight f s
-  pub tasks : (j : ℕ) → j < i → TaskRight f (taskText f s j)
+  pub tasks : (j : ℕ) → j < i → TaskRight f (j + 1) (taskText f s j)
 
 -- the fault that the front of a text meets first: its number, its place
 pub data FrontWrong (f : Form) (s : List ℕ) : ℕ → ℕ → Type 0 where

@@ -1,12 +1,12 @@
-// The task lines of a plan, each written into the part of the buffer that starts after the last line written.
-// Document 02, Wish 1.
+// The task lines of a plan, each written into the part of the buffer that starts after the last line written:
+// document 02, Wish 1. They hold no level: whether a table's levels are its places, Wish 8.
 ghost use mathlib.Core.Path.{_≡_};
 ghost use Prim.Native.Nat.{_+_, _≤_};
 ghost use lib.ListN.{length, take};
 ghost use Rattle.table.specs.Table.{LegalTask, LegalTable};
 ghost use Rattle.buffer.specs.Put.{Put};
 ghost use Rattle.lines.specs.Form.{form1};
-ghost use Rattle.lines.specs.Writes.{taskBytes, tasksText};
+ghost use Rattle.lines.specs.Writes.{taskBytes, tasksText, unplaced};
 use table::Table;
 use table::Task;
 
@@ -37,6 +37,25 @@ fn task_frame(t: Task) -> [u8; 16]
         0,
         0,
     ]
+}
+
+// The number of the first task whose level is not its place, and 0 for none.
+pub fn unplaced(t: Table) -> u32
+    requires { ⌜ LegalTable t ⌝ }
+    ensures { λ r. ⌜ r ≡ unplaced t ⌝ }
+{
+    let count = t.n;
+    let mut i: usize = 0;
+    let mut place: u32 = 0;
+    while i < count {
+        let task = t.tasks[i];
+        place += 1;
+        if task.level != place {
+            return place;
+        }
+        i += 1;
+    }
+    0
 }
 
 // The task lines, from the place `at` on; the answer is the place after them.

@@ -5,3 +5,4 @@ pub mod AllFit
 pub mod ListedLaws
 pub mod Samples
 pub mod Theorems
+pub mod SentLaws

@@ -14,7 +14,6 @@ use Rattle.lines.specs.Reads.{readOf}
 use Rattle.lines.specs.declared.Reading.{Reading}
 use Rattle.lines.proofs.Theorems.{read-legal, refused-small}
 use Rattle.planner.specs.declared.Record.{Record}
-use Rattle.planner.specs.declared.Done.{Done}
 use Rattle.planner.specs.declared.Job.the-variants.{Force}
 use Rattle.planner.specs.Done.{legalDone, planDone}
 use Rattle.planner.proofs.StageLaws.{room-enough}
@@ -32,7 +31,6 @@ use Rattle.listing.specs.Listing.{
   ListedAs,
 }
 use Rattle.listing.proofs.FitLaws.{refusal-fits}
-use Rattle.listing.proofs.AnswerLaws.{legal-fits}
 
 -- an accepted listing: line one, the tasks' lines, the last line
 module _ (t : Table) (rs : List Record) (forced passes : ℕ) where
@@ -66,24 +64,12 @@ module _ (text : List ℕ) where
   unfolding listingOf planDone
   listing-legal e = rw (e, ← room-enough (readOf text .table) Force 32 (read-legal text e .count))
 
-  -- in the code's words: r is what was read, d what the table is answered
+  -- in the code's words: r is what was read
   module _ {r : Reading} (re : r ≡ readOf text) where
     pub read-table : r .answer ≡ Fine → LegalTable (r .table)
     read-table fine =
         subst (λ (x : Reading). LegalTable (x .table)) (sym re)
         (read-legal text (ap (λ (x : Reading). x .answer) (sym re) ∙ fine))
-
-    pub listing-done : {d : Done} → r .answer ≡ Fine → d ≡ legalDone (r .table) Force
-        → answerText (r .table) (d .recs) (d .answer) ≡ listingOf text
-    listing-done {d} fine de =
-        ap (λ (x : Done). answerText (r .table) (x .recs) (x .answer)) de
-        ∙ ap (λ (x : Reading). answerText (x .table) (legalDone (x .table) Force .recs)
-        (legalDone (x .table) Force .answer)) re
-        ∙ listing-legal (ap (λ (x : Reading). x .answer) (sym re) ∙ fine)
-
-    pub listing-faulty : {why : Refusal} → r .answer ≡ Faulty why
-        → refusalLine (why .number) (why .place) 0 ≡ listingOf text
-    listing-faulty fault = listing-refused (ap (λ (x : Reading). x .answer) (sym re) ∙ fault)
 
     pub refusal-ready : {why : Refusal} {n : ℕ} → r .answer ≡ Faulty why → listingRoom ≤ n
         → 0 + length (refusalLine (why .number) (why .place) 0) ≤ n
@@ -95,18 +81,6 @@ module _ (text : List ℕ) where
           refusal-fits (why .number) (why .place) 0 (omega (arith, small .0)) (omega (arith, small .1))
               (omega arith),
         )
-
--- a legal table's listing fits
-pub table-ready : {t : Table} {d : Done} {n : ℕ} → LegalTable t → d ≡ legalDone t Force → listingRoom ≤ n
-    → LegalTable t × (length (answerText t (d .recs) (d .answer)) ≤ n)
-table-ready {t} {d} legal de enough = (
-  legal,
-  omega (
-    arith,
-    legal-fits t legal,
-    ap (λ (x : Done). length (answerText t (x .recs) (x .answer))) de,
-  ),
-)
 
 -- the buffer then
 module _ {w old : List ℕ} where

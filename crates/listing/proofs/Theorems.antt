@@ -14,7 +14,7 @@ use mathlib.Core.List.{List, [], _++_}
 use lib.ListN.{length, take}
 use denote.Ref.{now}
 use Rattle.page.specs.Words.{word}
-use Rattle.base.proofs.Unique.{OnlyWith}
+use Rattle.base.proofs.Unique.{only, Only, OnlyWith}
 use Rattle.buffer.proofs.PutLaws.{put-only}
 use Rattle.listing.proofs.write_listing.Kinds as listing
 use Rattle.listing.proofs.write_listing.Reads as listing-reads
@@ -30,6 +30,8 @@ use Rattle.planner.specs.Done.{planDone}
 use Rattle.listing.proofs.Samples as samples
 use Rattle.listing.proofs.put_done.Kinds as put-done
 use Rattle.listing.proofs.put_done.Reads as put-done-reads
+use Rattle.listing.proofs.force_text.Kinds as force-text
+use Rattle.listing.proofs.force_text.Reads as force-text-reads
 
 pub listing-only : OnlyWith 2 listing.ps listing.r listing-reads.Post (λ κs s. now (s .1 .0))
 listing-only κs a x y s s′ p q = listed-only p q
@@ -39,6 +41,9 @@ put-accepted-only κs a x y s s′ p q = put-only p q
 
 pub put-done-only : OnlyWith 1 put-done.ps put-done.r put-done-reads.Post (λ κs s. now (s .0))
 put-done-only κs a x y s s′ p q = put-only p q
+
+pub force-text-only : Only 1 force-text.ps force-text.r force-text-reads.Post
+force-text-only κs a x y s s′ p q = only p q
 
 pub listing-room : (text : List ℕ) → length (listingOf text) ≤ 2048
 listing-room = listing-fits

@@ -19,6 +19,7 @@ use Rattle.lines.specs.Reads.{readOf}
 use Rattle.planner.specs.declared.Record.{Record}
 use Rattle.planner.specs.declared.Done.{Done}
 use Rattle.planner.specs.declared.Job.the-variants.{Force}
+use Rattle.planner.specs.declared.Verdict.{Verdict}
 use Rattle.planner.specs.declared.Answer.{Answer}
 use Rattle.planner.specs.declared.Answer.the-variants.{Given, Refused}
 use Rattle.planner.specs.Answers.{recordAt}
@@ -67,9 +68,11 @@ listingOf text =
 abbrev pub listingRoom : ℕ
 listingRoom = 2048
 
--- a legal table and what forcing says of it, with room for its listing in the buffer
+-- a table and what forcing says of it, with room for its listing in the buffer; what is accepted is legal
 abbrev pub Ready : Table → Done → List ℕ → Type 0
-Ready t d out = LegalTable t × (length (answerText t (d .recs) (d .answer)) ≤ length out)
+Ready t d out =
+    ((v : Verdict) → d .answer ≡ Given v → LegalTable t)
+    × (length (answerText t (d .recs) (d .answer)) ≤ length out)
 
 -- A buffer with less room stays as it is, and the answer is 0. Else the text w stands at its start, the rest
 -- of the buffer is as it was, and the answer is the number of bytes written. It lies within the buffer.

@@ -1,9 +1,11 @@
 // The listing of a plan after forcing, into a buffer that the caller lends. Document 01, "The listing".
 ghost use Prim.Native.Nat.{_+_, _<_, _≤_};
+ghost use mathlib.Core.Path.{_≡_};
 ghost use lib.ListN.{length};
 ghost use Rattle.table.specs.Table.{LegalTable};
 ghost use Rattle.buffer.specs.Put.{Put};
 ghost use Rattle.listing.specs.Listing.{linesTo, lineAt, acceptedText, answerText, Ready, Listed};
+ghost use Rattle.listing.specs.Sent.{sentBy};
 use planner::Answer;
 use planner::Done;
 use planner::Job;
@@ -11,6 +13,12 @@ use planner::Record;
 use table::Checked;
 use table::Table;
 use task_lines::TaskRow;
+
+// The table of a text, and what forcing says of it.
+pub struct Sent {
+    pub table: Table,
+    pub done: Done,
+}
 
 // Every listing fits in so many bytes.
 pub const LISTING_ROOM: usize = 2048;
@@ -61,7 +69,7 @@ pub fn put_accepted(
     listing_lines::put_last(out, b, total, forced, passes)
 }
 
-// What forcing says of a legal table.
+// What forcing says of a table.
 pub fn put_done(out: &mut [u8], t: Table, done: Done) -> usize
     requires { ⌜ Ready t done (now out) ⌝ }
     ensures { λ r. ⌜ Put (now (out .entry)) 0 (answerText t (done .recs) (done .answer)) r
@@ -77,6 +85,25 @@ pub fn put_done(out: &mut [u8], t: Table, done: Done) -> usize
     }
 }
 
+// A plan text that is read, and forced.
+pub fn force_text(text: &[u8]) -> Sent
+    ensures { λ r. ⌜ r ≡ sentBy (now (text .entry)) ⌝ }
+{
+    let reading = reader::read_plan(text);
+    let found = reading.answer;
+    let table = reading.table;
+    match found {
+        Checked::Fine => Sent {
+            table: table,
+            done: planner::legal_done(table, Job::Force),
+        },
+        Checked::Refused(why) => Sent {
+            table: table,
+            done: planner::refused(why, 0),
+        },
+    }
+}
+
 // The listing of a plan text after forcing. The answer is the number of bytes written, 0 for want of room.
 pub fn write_listing(text: &[u8], out: &mut [u8]) -> usize
     ensures { λ r. ⌜ Listed (now (text .entry)) (now (out .entry)) r (now (out .exit)) ⌝ }
@@ -84,11 +111,8 @@ pub fn write_listing(text: &[u8], out: &mut [u8]) -> usize
     if out.len() < LISTING_ROOM {
         return 0;
     }
-    let reading = reader::read_plan(text);
-    let found = reading.answer;
-    let table = reading.table;
-    match found {
-        Checked::Fine => put_done(out, table, planner::legal_done(table, Job::Force)),
-        Checked::Refused(why) => refusal_line::put_refusal(out, 0, why.number, why.place, 0),
-    }
+    let sent = force_text(text);
+    let table = sent.table;
+    let done = sent.done;
+    put_done(out, table, done)
 }

@@ -1,10 +1,11 @@
--- Task by task into rows and flags: what a loop knows at the start, after one task more, and at its end.
--- Assumes nothing.
+-- Task by task into rows, flags and levels: what a loop knows at the start, after one task more, and at its
+-- end. Assumes nothing.
 use Prim.Native.Nat.{ℕ, _+_, _-_, _<_, min}
 use native.Mathlib.Omega.{arith}
-use mathlib.Core.Path.{_≡_, sym, ap, _∙_}
+use mathlib.Core.Path.{_≡_, refl, sym, ap, _∙_}
 use mathlib.Core.List.{List}
 use lib.Dec.{eqb}
+use lib.ListN.{replicate}
 use Rattle.base.specs.Choice.{pick}
 use Rattle.base.specs.Rows.{at}
 use Rattle.base.proofs.RowLaws.{fill-step}
@@ -19,26 +20,32 @@ use Rattle.flags.specs.declared.Flags.{Flags}
 use Rattle.flags.specs.Flags.{flagIn, held}
 use Rattle.flags.proofs.FlagLaws.{held-start, held-step, held-end}
 use Rattle.window.specs.Window.{inverseOf}
+use Rattle.rows.specs.declared.Levels.{Levels}
+use Rattle.rows.specs.Levels.{withLevel, LevelsTo}
 use Rattle.rows.specs.Held.{EmptyRows, RowsTo, inverseOfTask, restOfTask, costOfTask, reachOfTask}
-use Rattle.rows.proofs.HeldLaws.{fill-none, fill-all}
+use Rattle.rows.proofs.HeldLaws.{fill-none, fill-all, levels-none, levels-more, levels-all}
 use Rattle.loading.specs.declared.Loaded.{Loaded}
 use Rattle.loading.specs.Loaded.{Stored, LoadedAs}
 
 -- the first i tasks of t are loaded
-pub record Loading (t : Table) (given : Flags) (inverses rests costs reaches : List ℕ) (i : ℕ) : Type 0 where
+pub record Loading (t : Table) (given : Flags) (ls : Levels) (inverses rests costs reaches : List ℕ)
+    (i : ℕ) : Type 0 where
   pub rows : RowsTo t inverses rests costs reaches i
   pub flags : given ≡ held (at (flagsOf t)) i
+  pub levels : LevelsTo t ls i
 
 pub loading-start : (t : Table) {is rs cs js : List ℕ} → EmptyRows is rs cs js
-    → Loading t (record { word = 0 }) is rs cs js 0
-loading-start t e = record { rows = fill-none e; flags = held-start (at (flagsOf t)) }
+    → Loading t (record { word = 0 }) (record { of = replicate 32 0 }) is rs cs js 0
+loading-start t e =
+    record { rows = fill-none e; flags = held-start (at (flagsOf t)); levels = levels-none refl }
 
-module _ {t : Table} {given : Flags} {is rs cs js : List ℕ} {i : ℕ} (a : Loading t given is rs cs js i) where
-  pub loading-step : {x : Task} {given′ : Flags} {is′ rs′ cs′ js′ : List ℕ} → i < t .n → i < 32
-      → x ≡ taskAt (t .tasks) i → Stored x i is rs cs js is′ rs′ cs′ js′
+module _ {t : Table} {given : Flags} {levels : Levels} {is rs cs js : List ℕ} {i : ℕ}
+    (a : Loading t given levels is rs cs js i) where
+  pub loading-step : {x : Task} {given′ : Flags} {levels′ : Levels} {is′ rs′ cs′ js′ : List ℕ} → i < t .n
+      → i < 32 → x ≡ taskAt (t .tasks) i → Stored x i is rs cs js is′ rs′ cs′ js′
       → given′ ≡ held (λ j. pick (eqb j i) (min (x .flag) (flagIn given j)) (flagIn given j)) 32
-      → Loading t given′ is′ rs′ cs′ js′ (i + 1)
-  loading-step lt small e st marked = record {
+      → levels′ ≡ withLevel levels i (x .level) → Loading t given′ levels′ is′ rs′ cs′ js′ (i + 1)
+  loading-step lt small e st marked placed = record {
     rows = record {
       inverse =
           st .inverse
@@ -55,14 +62,21 @@ module _ {t : Table} {given : Flags} {is rs cs js : List ℕ} {i : ℕ} (a : Loa
     flags =
         held-step (at (flagsOf t)) small (a .flags) (ap (λ (u : Task). u .flag) e ∙ sym (flags-at t i lt))
         marked;
+    levels = levels-more small (a .levels) placed (ap (λ (u : Task). u .level) e);
   }
 
   pub loading-end : {found : Checked} {r : Loaded} → i ≡ t .n → Fine ≡ found → r .answer ≡ Fine
-      → r .head .policy ≡ t .policy → r .head .cores ≡ t .cores → r .head .n ≡ t .n → r .given ≡ given
-      → LoadedAs found t r is rs cs js
-  loading-end all fine answer policy cores n flags = record {
+      → r .head .policy ≡ t .policy → r .head .cores ≡ t .cores → r .head .n ≡ t .n
+      → r .head .levels ≡ levels → r .given ≡ given → LoadedAs found t r is rs cs js
+  loading-end all fine answer policy cores n same flags = record {
     answer = answer ∙ fine;
-    rows = λ _. record { policy = policy; cores = cores; n = n; rows = fill-all (a .rows) all };
+    rows = λ _. record {
+      policy = policy;
+      cores = cores;
+      n = n;
+      levels = rw same (levels-all (a .levels) all);
+      rows = fill-all (a .rows) all;
+    };
     given = λ _. flags ∙ held-end (at (flagsOf t)) (a .flags) all;
   }
 

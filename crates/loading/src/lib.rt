@@ -7,6 +7,7 @@ ghost use Rattle.loading.specs.Loaded.{Stored};
 use flags::Flags;
 use flags::NO_FLAGS;
 use rows::Head;
+use rows::NO_LEVELS;
 use table::Checked;
 use table::Refusal;
 use table::Task;
@@ -31,12 +32,14 @@ pub fn refused(number: u32, place: u32) -> Loaded
             policy: 0,
             cores: 0,
             n: 0,
+            levels: NO_LEVELS,
         },
         given: NO_FLAGS,
     }
 }
 
-// A task to its place in the rows: the inverse of its period, T - C, C and D - C.
+// A task to its place in the rows: the inverse of its period, T - C, C and D - C. Its flag and its level are
+// held by value, with the flags and the head.
 pub fn put_task<'a>(
     t: Task,
     i: usize,

@@ -1,11 +1,12 @@
 -- Each claim of specs/MayHurt is false, by a table of two or three tasks: antt computes where forcing ends on
--- it and on the changed one. Tasks are (T, C, D, flag).
+-- it and on the changed one. Tasks are (T, C, D, flag), their
+-- levels are their places.
 -- Assumes nothing.
 use Prim.Native.Nat.{ℕ, _≤_, _<_}
 use native.Mathlib.Omega.{arith}
 use native.Mathlib.Nat.{eq-or-lt-of-le, le-of-eq}
 use mathlib.Core.Path.{_≡_, refl, sym, ap, subst, _∙_}
-use mathlib.Core.Logic.{⊎-elim}
+use mathlib.Core.Logic.{inr, ⊎-elim}
 use mathlib.Core.List.{[], _∷_}
 use Rattle.base.specs.Sums.{sumTo, topTo}
 use Rattle.base.specs.Least.{least, firstFrom}
@@ -18,7 +19,7 @@ use Rattle.model.specs.Demands.{Passes}
 use Rattle.table.specs.declared.Task.{Task}
 use Rattle.table.specs.declared.Table.{Table}
 use Rattle.table.specs.declared.Checked.the-variants.{Fine}
-use Rattle.table.specs.Table.{taskAt, policyOf, systemOf, flagsOf, LegalTable}
+use Rattle.table.specs.Table.{taskAt, levelAt, policyOf, systemOf, flagsOf, LegalTable}
 use Rattle.table.specs.Checks.{headFault, taskFault, faultyTask, checkOf}
 use Rattle.table.proofs.TableLaws.{fine-legal}
 use Rattle.easier.specs.TableWords.{final, placeOf, Accepted, EasedTask, EasedTable, due, Redated}
@@ -43,7 +44,7 @@ both policy t u bare bare-after = record {
   bare-after = bare-after;
 }
 
--- task i of u is that of t but for D; its D is no shorter; it is eased
+-- task i of u is that of t but for D; its D is no shorter; it is eased, on its level
 abbrev Same : Table → Table → ℕ → Type 0
 Same t u i = taskAt (u .tasks) i ≡ due (taskAt (t .tasks) i) (taskAt (u .tasks) i .deadline)
 
@@ -51,16 +52,17 @@ abbrev Later : Table → Table → ℕ → Type 0
 Later t u i = taskAt (t .tasks) i .deadline ≤ taskAt (u .tasks) i .deadline
 
 abbrev Lighter : Table → Table → ℕ → Type 0
-Lighter t u i = EasedTask (taskAt (t .tasks) i) (taskAt (u .tasks) i)
+Lighter t u i = (EasedTask (taskAt (t .tasks) i) (taskAt (u .tasks) i)) × (levelAt u i ≡ levelAt t i)
 
 light : {a b : Task} → b .flag ≡ a .flag → a .period ≤ b .period → b .cost ≤ a .cost
-    → b .deadline ≡ a .deadline → EasedTask a b
-light flag period cost deadline = record { flag = flag; period = period; cost = cost; deadline = deadline }
+    → b .deadline ≡ a .deadline → b .level ≡ a .level → EasedTask a b × (b .level ≡ a .level)
+light flag period cost deadline level =
+    (record { flag = flag; period = period; cost = cost; deadline = deadline }, level)
 
-light-same : {a b : Task} → a ≡ b → EasedTask a b
+light-same : {a b : Task} → a ≡ b → EasedTask a b × (b .level ≡ a .level)
 light-same e =
     light (sym (ap (λ x. x .flag) e)) (le-of-eq (ap (λ x. x .period) e))
-    (le-of-eq (sym (ap (λ x. x .cost) e))) (sym (ap (λ x. x .deadline) e))
+    (le-of-eq (sym (ap (λ x. x .cost) e))) (sym (ap (λ x. x .deadline) e)) (sym (ap (λ x. x .level) e))
 
 redated : {t u : Table} → u .policy ≡ t .policy → u .cores ≡ t .cores → u .n ≡ t .n
     → ((i : ℕ) → i < t .n → Same t u i) → Redated t u
@@ -72,8 +74,9 @@ eased policy cores count tasks = record {
   policy = policy;
   cores = omega arith;
   inside = λ i lt. omega arith;
-  order = λ i j l _. l;
-  tasks = tasks;
+  apart = λ i j _ _ e. e;
+  order = inr (λ k i lk li. cc (tasks k lk .1, tasks i li .1));
+  tasks = λ i lt. tasks i lt .0;
 }
 
 -- A longer deadline. EDF, one core: (6,1,5,P) (7,1,6,P) (5,3,5,N) is accepted, with D = 7 for task 2 refused
@@ -83,16 +86,16 @@ unfolding
     sumTo topTo least firstFrom listFrom row workIn W E share block from cap shareOf blockOf B satisfies
     leastLength bound test lowest lacks lacking made run force flagsOf headFault taskFault faultyTask checkOf
 longer-refused EDF claim =
-    let t : Table = tableOf EDF 1 (task 6 1 5 1 ∷ task 7 1 6 1 ∷ task 5 3 5 0 ∷ []) in
-    let u : Table = tableOf EDF 1 (task 6 1 5 1 ∷ task 7 1 7 1 ∷ task 5 3 5 0 ∷ []) in
+    let t : Table = tableOf EDF 1 (task 6 1 5 1 1 ∷ task 7 1 6 1 2 ∷ task 5 3 5 0 3 ∷ []) in
+    let u : Table = tableOf EDF 1 (task 6 1 5 1 1 ∷ task 7 1 7 1 2 ∷ task 5 3 5 0 3 ∷ []) in
     let yes : Accepted u =
     claim t u (both refl refl refl refl refl) (redated refl refl refl (three (Same t u) refl refl refl))
     (three (Later t u) (omega arith) (omega arith) (omega arith)) refl in
     let no : placeOf u ≡ 2 = refl in
     omega arith
 longer-refused FP claim =
-    let t : Table = tableOf FP 1 (task 2 1 1 0 ∷ task 2 1 2 1 ∷ []) in
-    let u : Table = tableOf FP 1 (task 2 1 2 0 ∷ task 2 1 2 1 ∷ []) in
+    let t : Table = tableOf FP 1 (task 2 1 1 0 1 ∷ task 2 1 2 1 2 ∷ []) in
+    let u : Table = tableOf FP 1 (task 2 1 2 0 1 ∷ task 2 1 2 1 2 ∷ []) in
     let yes : Accepted u =
     claim t u (both refl refl refl refl refl) (redated refl refl refl (two (Same t u) refl refl))
     (two (Later t u) (omega arith) (omega arith)) refl in
@@ -106,16 +109,16 @@ unfolding
     sumTo topTo least firstFrom listFrom row workIn W E share block from cap shareOf blockOf B satisfies
     leastLength bound test lowest lacks lacking made run force flagsOf headFault taskFault faultyTask checkOf
 shorter-refused EDF claim =
-    let t : Table = tableOf EDF 1 (task 2 1 2 1 ∷ task 2 1 2 1 ∷ []) in
-    let u : Table = tableOf EDF 1 (task 2 1 1 1 ∷ task 2 1 2 1 ∷ []) in
+    let t : Table = tableOf EDF 1 (task 2 1 2 1 1 ∷ task 2 1 2 1 2 ∷ []) in
+    let u : Table = tableOf EDF 1 (task 2 1 1 1 1 ∷ task 2 1 2 1 2 ∷ []) in
     let yes : Accepted u =
     claim t u (both refl refl refl refl refl) (redated refl refl refl (two (Same t u) refl refl))
     (two (Later u t) (omega arith) (omega arith)) refl in
     let no : placeOf u ≡ 1 = refl in
     omega arith
 shorter-refused FP claim =
-    let t : Table = tableOf FP 2 (task 10 4 10 1 ∷ task 10 4 10 1 ∷ task 20 8 20 1 ∷ []) in
-    let u : Table = tableOf FP 2 (task 10 4 10 1 ∷ task 10 4 10 1 ∷ task 20 8 19 1 ∷ []) in
+    let t : Table = tableOf FP 2 (task 10 4 10 1 1 ∷ task 10 4 10 1 2 ∷ task 20 8 20 1 3 ∷ []) in
+    let u : Table = tableOf FP 2 (task 10 4 10 1 1 ∷ task 10 4 10 1 2 ∷ task 20 8 19 1 3 ∷ []) in
     let yes : Accepted u =
     claim t u (both refl refl refl refl refl) (redated refl refl refl (three (Same t u) refl refl refl))
     (three (Later u t) (omega arith) (omega arith) (omega arith)) refl in
@@ -129,27 +132,27 @@ unfolding
     sumTo topTo least firstFrom listFrom row workIn W E share block from cap shareOf blockOf B satisfies
     leastLength bound test lowest lacks lacking made run force flagsOf headFault taskFault faultyTask checkOf
 passes-rise EDF claim =
-    let t : Table = tableOf EDF 2 (task 5 4 5 1 ∷ task 3 1 3 0 ∷ task 3 1 2 1 ∷ []) in
-    let u : Table = tableOf EDF 2 (task 7 4 5 1 ∷ task 3 1 3 0 ∷ task 5 1 2 1 ∷ []) in
+    let t : Table = tableOf EDF 2 (task 5 4 5 1 1 ∷ task 3 1 3 0 2 ∷ task 3 1 2 1 3 ∷ []) in
+    let u : Table = tableOf EDF 2 (task 7 4 5 1 1 ∷ task 3 1 3 0 2 ∷ task 5 1 2 1 3 ∷ []) in
     let fall =
     claim t u (both refl refl refl refl refl)
     (eased refl refl refl (three (Lighter t u)
-    (light refl (omega arith) (omega arith) refl)
-    (light refl (omega arith) (omega arith) refl)
-    (light refl (omega arith) (omega arith) refl)))
+    (light refl (omega arith) (omega arith) refl refl)
+    (light refl (omega arith) (omega arith) refl refl)
+    (light refl (omega arith) (omega arith) refl refl)))
     refl in
     let before : final t .passes ≡ 2 = refl in
     let after : final u .passes ≡ 3 = refl in
     omega arith
 passes-rise FP claim =
-    let t : Table = tableOf FP 1 (task 7 1 4 1 ∷ task 3 1 3 1 ∷ task 5 2 5 1 ∷ []) in
-    let u : Table = tableOf FP 1 (task 9 1 4 1 ∷ task 3 1 3 1 ∷ task 7 2 5 1 ∷ []) in
+    let t : Table = tableOf FP 1 (task 7 1 4 1 1 ∷ task 3 1 3 1 2 ∷ task 5 2 5 1 3 ∷ []) in
+    let u : Table = tableOf FP 1 (task 9 1 4 1 1 ∷ task 3 1 3 1 2 ∷ task 7 2 5 1 3 ∷ []) in
     let fall =
     claim t u (both refl refl refl refl refl)
     (eased refl refl refl (three (Lighter t u)
-    (light refl (omega arith) (omega arith) refl)
-    (light refl (omega arith) (omega arith) refl)
-    (light refl (omega arith) (omega arith) refl)))
+    (light refl (omega arith) (omega arith) refl refl)
+    (light refl (omega arith) (omega arith) refl refl)
+    (light refl (omega arith) (omega arith) refl refl)))
     refl in
     let before : final t .passes ≡ 3 = refl in
     let after : final u .passes ≡ 4 = refl in
@@ -163,25 +166,25 @@ unfolding
     sumTo topTo least firstFrom listFrom row workIn W E share block from cap shareOf blockOf B satisfies
     leastLength bound test lowest lacks lacking made run force flagsOf headFault taskFault faultyTask checkOf
 bounds-rise EDF claim =
-    let t : Table = tableOf EDF 1 (task 5 2 5 0 ∷ task 5 2 5 1 ∷ []) in
-    let u : Table = tableOf EDF 1 (task 5 2 5 0 ∷ task 7 1 5 1 ∷ []) in
+    let t : Table = tableOf EDF 1 (task 5 2 5 0 1 ∷ task 5 2 5 1 2 ∷ []) in
+    let u : Table = tableOf EDF 1 (task 5 2 5 0 1 ∷ task 7 1 5 1 2 ∷ []) in
     let fall =
     claim t u (both refl refl refl refl refl)
     (eased refl refl refl (two (Lighter t u)
-    (light refl (omega arith) (omega arith) refl)
-    (light refl (omega arith) (omega arith) refl)))
+    (light refl (omega arith) (omega arith) refl refl)
+    (light refl (omega arith) (omega arith) refl refl)))
     refl 1 (omega arith) in
     let before : at (final t .bounds) 1 ≡ 4 = refl in
     let after : at (final u .bounds) 1 ≡ 5 = refl in
     omega arith
 bounds-rise FP claim =
-    let t : Table = tableOf FP 1 (task 2 1 2 1 ∷ task 4 1 4 0 ∷ []) in
-    let u : Table = tableOf FP 1 (task 2 1 2 1 ∷ task 6 1 4 0 ∷ []) in
+    let t : Table = tableOf FP 1 (task 2 1 2 1 1 ∷ task 4 1 4 0 2 ∷ []) in
+    let u : Table = tableOf FP 1 (task 2 1 2 1 1 ∷ task 6 1 4 0 2 ∷ []) in
     let fall =
     claim t u (both refl refl refl refl refl)
     (eased refl refl refl (two (Lighter t u)
-    (light refl (omega arith) (omega arith) refl)
-    (light refl (omega arith) (omega arith) refl)))
+    (light refl (omega arith) (omega arith) refl refl)
+    (light refl (omega arith) (omega arith) refl refl)))
     refl 0 (omega arith) in
     let before : at (final t .bounds) 0 ≡ 1 = refl in
     let after : at (final u .bounds) 0 ≡ 2 = refl in
@@ -240,7 +243,7 @@ either-way = record {
       (λ yes. omega (arith, pair-places .1)) d low high
       (table-eased u (pair d) (λ i. i) h legal
       (eased (sym (r .policy)) (sym (r .cores)) (sym (r .count))
-      (two (Lighter u (pair d)) (light-same a) (light-same (b ∙ ap (due (task 14 8 14 1)) last))))
+      (two (Lighter u (pair d)) (light-same a) (light-same (b ∙ ap (due (task 14 8 14 1 2)) last))))
       .accepts ok);
   shorter = pair-3-passes;
 }

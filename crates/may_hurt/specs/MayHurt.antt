@@ -52,9 +52,9 @@ abbrev pub BoundsFall : Policy → Type 0
 BoundsFall p = (t u : Table) → Both p t u → EasedTable t u (λ i. i) → Accepted t → (k : ℕ) → k < u .n
     → at (final u .bounds) k ≤ at (final t .bounds) k
 
--- (T, C, D, flag), with 1 for P and 0 for N
-abbrev pub task : ℕ → ℕ → ℕ → ℕ → Task
-task t c d f = record { flag = f; period = t; cost = c; deadline = d }
+-- (T, C, D, flag, level), with 1 for P and 0 for N
+abbrev pub task : ℕ → ℕ → ℕ → ℕ → ℕ → Task
+task t c d f l = record { flag = f; period = t; cost = c; deadline = d; level = l }
 
 abbrev pub numberOf : Policy → ℕ
 numberOf EDF = 0
@@ -70,7 +70,7 @@ tableOf p m ts = record {
 }
 
 abbrev pub pair : ℕ → Table
-pair d = tableOf FP 1 (task 5 2 d 1 ∷ task 14 8 14 1 ∷ [])
+pair d = tableOf FP 1 (task 5 2 d 1 1 ∷ task 14 8 14 1 2 ∷ [])
 
 pub record EitherWay : Type 0 where
   pub legal : LegalTable (pair 4)

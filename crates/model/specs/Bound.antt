@@ -4,7 +4,7 @@
 --   T_i, C_i, D_i        s .T i, s .C i, s .D i
 --   m, n                 s .cores, s .count
 --   slack S_i            s .S i, 0 throughout in edition 1
---   i higher than k      s .higher k i, an earlier place now
+--   i higher than k      s .higher k i, whatever the order: by levels in a table
 --   W_i(l), E(k,i)       W s i l, E s k i
 --   q                    cap s fl k l, l itself for a non-preemptive k
 --   the table of sums    share (what is summed) and block (of which the m largest are added)

@@ -15,9 +15,10 @@ pub test-rows-only : (s : System) (fl : ℕ → ℕ) (n : ℕ) {xs ys : List ℕ
 test-rows-only s fl n p q = only p q
 
 module _ {s : System} {fl : ℕ → ℕ} where
-  pub search-on-only : {end : ℕ} {old xs ys : List ℕ} → Onward s fl end old xs → Onward s fl end old ys
-      → (k : ℕ) → k < end → 0 < fl k → at xs k ≡ at ys k
-  search-on-only a b k lt pre = only (a .found k lt pre) (b .found k lt pre)
+  pub search-on-only : {level : ℕ → ℕ} {below n : ℕ} {old xs ys : List ℕ}
+      → Onward s fl level below n old xs → Onward s fl level below n old ys
+      → (k : ℕ) → k < n → level k < below → 0 < fl k → at xs k ≡ at ys k
+  search-on-only a b k lt low pre = only (a .found k lt low pre) (b .found k lt low pre)
 
   pub search-rest-only : {xs ys : List ℕ} → Last s fl xs → Last s fl ys
       → (firstOf (λ k. eqb (at xs k) 0) (s .count) ≡ firstOf (λ k. eqb (at ys k) 0) (s .count))

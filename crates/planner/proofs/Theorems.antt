@@ -8,7 +8,7 @@ use Rattle.table.specs.declared.Task.{Task}
 use Rattle.table.specs.declared.Table.{Table}
 use Rattle.table.proofs.TableLaws.{legal-fine}
 use Rattle.lines.specs.Reads.{accepted, readOf}
-use Rattle.lines.specs.Writes.{planText}
+use Rattle.lines.specs.Writes.{planText, PlaceLevels}
 use Rattle.lines.proofs.Theorems.{text-accepted, reading-exact}
 use Rattle.planner.specs.declared.Job.{Job}
 use Rattle.planner.specs.Answers.{refused, valuesOf}
@@ -38,13 +38,13 @@ pub plan-list-agree : (text : List ℕ) (t : Table) (job : Job) (room : ℕ) →
 unfolding planDone listDone
 plan-list-agree text t job room e = rw (e, sym (legal-fine (reading-exact text t .0 e .legal)))
 
--- And a legal list of tasks is answered as the plan that it is written as.
+-- And a legal list of tasks whose levels are its places is answered as the plan that it is written as.
 pub written-agree : (cores policy : ℕ) (ts : List Task) (job : Job) (room : ℕ)
-    → LegalTable (listTable cores policy ts)
+    → LegalTable (listTable cores policy ts) → PlaceLevels (listTable cores policy ts)
     → planDone (planText (listTable cores policy ts)) job room ≡ tasksDone cores policy ts job room
-written-agree cores policy ts job room legal =
+written-agree cores policy ts job room legal placed =
     plan-list-agree (planText t) t job room
-    (text-accepted t legal (record { places = loaded-length ts; zeros = loaded-past ts }))
+    (text-accepted t legal (record { places = loaded-length ts; zeros = loaded-past ts }) placed)
   where
     t : Table
     t = listTable cores policy ts

@@ -1,9 +1,10 @@
--- The values of every answer are small: a refusal's number is 1 to 14, a place at most 34, a forced count at
--- most 32, passes at most 33. Assumes nothing.
+-- The values of every answer are small: a refusal's number is 1 to 14 or 17, a place at most 34, a forced
+-- count at most 32, passes at most 33. Assumes nothing.
 use Prim.Native.Nat.{ℕ, _≤_}
 use native.Mathlib.Omega.{arith}
-use mathlib.Core.Path.{refl}
+use mathlib.Core.Path.{_≡_, refl}
 use mathlib.Core.Bool.{Bool, true, false}
+use mathlib.Core.Logic.{_⊎_, inl, inr, ⊎-elim}
 use lib.Dec.{eqb}
 use Rattle.base.specs.Choice.{pick}
 use Rattle.base.proofs.SumLaws.{sum-cap}
@@ -12,7 +13,7 @@ use Rattle.table.specs.declared.Task.{Task}
 use Rattle.table.specs.declared.Table.{Table}
 use Rattle.table.specs.Table.{LegalTable, systemOf, flagsOf}
 use Rattle.table.specs.Faults.{Within, HeadWrong, TaskWrong, TableWrong, in-head, in-task, cores, policy}
-use Rattle.table.specs.Faults.{count, flag, period, deadline, cost}
+use Rattle.table.specs.Faults.{count, flag, period, deadline, cost, level}
 use Rattle.lines.proofs.Theorems.{wrong-numbers, wrong-places}
 use Rattle.flags.specs.Flags.{changed}
 use Rattle.planner.specs.declared.Answer.{Answer}
@@ -26,20 +27,21 @@ use Rattle.planner.proofs.CallLaws.{sends-legal}
 use Rattle.planner.proofs.StageLaws.{timed, flagged}
 use Rattle.planner.proofs.WayLaws.{answer-exact}
 
--- the faults of a table: 5 to 11, at a place up to 32
+-- the faults of a table: 5 to 11 or 17, at a place up to 32
 head-number : {h : Table} {f : ℕ} → HeadWrong h f → Within 5 11 f
 head-number (cores o) = (omega arith, omega arith)
 head-number (policy a o) = (omega arith, omega arith)
 head-number (count a b o) = (omega arith, omega arith)
 
-task-number : {t : Task} {f : ℕ} → TaskWrong t f → Within 5 11 f
-task-number (flag o) = (omega arith, omega arith)
-task-number (period a o) = (omega arith, omega arith)
-task-number (deadline a b o) = (omega arith, omega arith)
-task-number (cost a b d o) = (omega arith, omega arith)
+task-number : {t : Task} {f : ℕ} → TaskWrong t f → Within 5 11 f ⊎ (f ≡ 17)
+task-number (flag o) = inl (omega arith, omega arith)
+task-number (period a o) = inl (omega arith, omega arith)
+task-number (deadline a b o) = inl (omega arith, omega arith)
+task-number (cost a b d o) = inl (omega arith, omega arith)
+task-number (level a b d e o) = inr refl
 
-pub table-number : {t : Table} {f p : ℕ} → TableWrong t f p → Within 5 11 f
-table-number (in-head w) = head-number w
+pub table-number : {t : Table} {f p : ℕ} → TableWrong t f p → Within 5 11 f ⊎ (f ≡ 17)
+table-number (in-head w) = inl (head-number w)
 table-number (in-task i head l before w) = task-number w
 
 table-place : {t : Table} {f p : ℕ} → TableWrong t f p → p ≤ 32
@@ -47,28 +49,31 @@ table-place (in-head w) = omega arith
 table-place (in-task i head l before w) = omega (arith, head .count .1)
 
 -- and of a call
-fault-number : {c : Call} {f p : ℕ} → Faulty c f p → Within 1 12 f
-fault-number (in-text w) = wrong-numbers w
-fault-number (in-list w) = (omega (arith, table-number w .0), omega (arith, table-number w .1))
+fault-number : {c : Call} {f p : ℕ} → Faulty c f p → Within 1 12 f ⊎ (f ≡ 17)
+fault-number (in-text w) = inl (wrong-numbers w)
+fault-number (in-list w) =
+    ⊎-elim (λ (x : Within 5 11 _). inl (omega (arith, x .0), omega (arith, x .1))) (λ e. inr e)
+    (table-number w)
 
 fault-place : {c : Call} {f p : ℕ} → Faulty c f p → p ≤ 34
 fault-place (in-text w) = wrong-places w
 fault-place (in-list w) = omega (arith, table-place w)
 
--- a refusal has a number from 1 to 14
+-- a refusal has a number from 1 to 14, or 17
 verdict-numbered : {t : Table} {job : Job} {number place passes : ℕ}
-    → Verdicts t job (refused number place passes) → Within 1 14 number
-verdict-numbered (fourteen l none before) = (omega arith, omega arith)
+    → Verdicts t job (refused number place passes) → Within 1 14 number ⊎ (number ≡ 17)
+verdict-numbered (fourteen l none before) = inl (omega arith, omega arith)
 
 pub refusal-numbered : {c : Call} {room : ℕ} {job : Job} {number place passes : ℕ}
-    → Way c room job (refused number place passes) → Within 1 14 number
-refusal-numbered (faulty w) = (fault-number w .0, omega (arith, fault-number w .1))
-refusal-numbered (full s small) = (omega arith, omega arith)
+    → Way c room job (refused number place passes) → Within 1 14 number ⊎ (number ≡ 17)
+refusal-numbered (faulty w) =
+    ⊎-elim (λ (x : Within 1 12 _). inl (x .0, omega (arith, x .1))) (λ e. inr e) (fault-number w)
+refusal-numbered (full s small) = inl (omega arith, omega arith)
 refusal-numbered (answered s fits v) = verdict-numbered v
 
 -- all values of an answer
 pub record SmallValues (v : Values) : Type 0 where
-  pub number : v .number ≤ 14
+  pub number : v .number ≤ 17
   pub place : v .place ≤ 34
   pub forced : v .forced ≤ 32
   pub passes : v .passes ≤ 33
@@ -114,8 +119,9 @@ module _ {t : Table} (legal : LegalTable t) where
   }
 
 way-small : {c : Call} {room : ℕ} {job : Job} {a : Answer} → Way c room job a → SmallValues (valuesOf 0 a)
-way-small (faulty w) = record {
-  number = omega (arith, fault-number w .1);
+way-small (faulty {f = f} w) = record {
+  number =
+      ⊎-elim (λ (x : Within 1 12 f). omega (arith, x .1)) (λ (e : f ≡ 17). omega arith) (fault-number w);
   place = fault-place w;
   forced = omega arith;
   passes = omega arith;

@@ -7,7 +7,7 @@
 --   a legal table is answered                          legalDone
 --   13 before any test                                 roomDone: roomed
 --   a plan: the reading's refusal, or its table        planDone
---   cores, policy and a list of tasks: 5 to 11 first   listDone of 32 places, tasksDone of the caller's list
+--   cores, policy and tasks: 5 to 11 and 17 first      listDone of 32 places, tasksDone of the caller's list
 --   the caller's list afterwards                       listAfter
 --
 -- Assumes nothing.

@@ -1,7 +1,7 @@
 -- Document 01 in its own words: which answer a call gets exactly when, and each task's record.
 --
 --   document 01                                                         here
---   5 to 11, or the reading's 1 to 12: the first fault is the answer    faulty
+--   5 to 11 and 17, or the reading's 1 to 12: the first fault           faulty
 --   13: the caller's list has fewer than n records                      full
 --   yes exactly if the table passes; a no is no refusal                 tested-yes, tested-no
 --   forcing has ended and every task has a bound                        forced-yes

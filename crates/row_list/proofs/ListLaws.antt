@@ -4,9 +4,10 @@
 use Prim.Native.Nat.{ℕ, _+_, _≤_, _<_, min}
 use native.Mathlib.Omega.{arith}
 use mathlib.Core.Path.{_≡_, sym, ap, _∙_}
+use mathlib.Core.Bool.{Bool}
 use mathlib.Core.List.{List}
 use lib.Dec.{eqb}
-use lib.ListN.{length}
+use lib.ListN.{length, replicate}
 use Rattle.base.specs.Choice.{pick}
 use Rattle.base.proofs.RowLaws.{row-at}
 use Rattle.table.specs.declared.Task.{Task}
@@ -18,72 +19,81 @@ use Rattle.table.proofs.CheckLaws.{head-refused, Checking, checking-start, chec
 use Rattle.table.proofs.CheckLaws.{checking-end}
 use Rattle.flags.specs.declared.Flags.{Flags}
 use Rattle.flags.specs.Flags.{flagIn, held}
+use Rattle.rows.specs.declared.Levels.{Levels}
+use Rattle.rows.specs.Levels.{withLevel}
 use Rattle.rows.specs.Held.{EmptyRows}
-use Rattle.flat.specs.Flat.{countIn, taskIn, tasksIn}
+use Rattle.flat_tasks.specs.FlatTasks.{countIn, taskIn, shownIn, tasksIn, tableIn}
 use Rattle.loading.specs.declared.Loaded.{Loaded}
 use Rattle.loading.specs.Loaded.{Stored}
 use Rattle.loading.proofs.LoadLaws.{Loading, loading-start, loading-step, loading-end}
-use Rattle.row_list.specs.ListLoaded.{tableIn, ListLoaded}
+use Rattle.row_list.specs.ListLoaded.{ListLoaded}
 
-module _ (cores policy : ℕ) (xs : List ℕ) where
+module _ (levels : Bool) (cores policy : ℕ) (xs : List ℕ) where
   -- the first i of the n tasks are right, and loaded
-  pub record ListRead (n : ℕ) (given : Flags) (is rs cs js : List ℕ) (i place : ℕ) : Type 0 where
-    pub count : n ≡ countIn (length xs)
-    pub checks : Checking (tableIn cores policy xs) i place
-    pub loads : Loading (tableIn cores policy xs) given is rs cs js i
+  pub record ListRead (n : ℕ) (given : Flags) (ls : Levels) (is rs cs js : List ℕ) (i place : ℕ)
+      : Type 0 where
+    pub count : n ≡ countIn levels (length xs)
+    pub checks : Checking (tableIn levels cores policy xs) i place
+    pub loads : Loading (tableIn levels cores policy xs) given ls is rs cs js i
 
-  module _ {n wrong : ℕ} (count : n ≡ countIn (length xs)) (is : wrong ≡ headFault cores policy n) where
-    head-is : wrong ≡ headFault cores policy (countIn (length xs))
+  module _ {n wrong : ℕ} (count : n ≡ countIn levels (length xs))
+      (is : wrong ≡ headFault cores policy n) where
+    head-is : wrong ≡ headFault cores policy (countIn levels (length xs))
     head-is = is ∙ ap (headFault cores policy) count
 
-    pub head-wrong : (wrong ≡ 0 → ⊥) → faulty wrong 0 ≡ checkOf (tableIn cores policy xs)
-    head-wrong some = head-refused (tableIn cores policy xs) wrong head-is some
+    pub head-wrong : (wrong ≡ 0 → ⊥) → faulty wrong 0 ≡ checkOf (tableIn levels cores policy xs)
+    head-wrong some = head-refused (tableIn levels cores policy xs) wrong head-is some
 
-    pub list-start : {ls rs cs js : List ℕ} → wrong ≡ 0 → EmptyRows ls rs cs js
-        → ListRead n (record { word = 0 }) ls rs cs js 0 0
+    pub list-start : {is rs cs js : List ℕ} → wrong ≡ 0 → EmptyRows is rs cs js
+        → ListRead n (record { word = 0 }) (record { of = replicate 32 0 }) is rs cs js 0 0
     list-start none empty = record {
       count = count;
-      checks = checking-start (tableIn cores policy xs) (sym head-is ∙ none);
-      loads = loading-start (tableIn cores policy xs) empty;
+      checks = checking-start (tableIn levels cores policy xs) (sym head-is ∙ none);
+      loads = loading-start (tableIn levels cores policy xs) empty;
     }
 
-  module _ {n : ℕ} {given : Flags} {is rs cs js : List ℕ} {i place : ℕ}
-      (a : ListRead n given is rs cs js i place)
+  module _ {n : ℕ} {given : Flags} {ls : Levels} {is rs cs js : List ℕ} {i place : ℕ}
+      (a : ListRead n given ls is rs cs js i place)
     where
       pub list-small : n ≤ 32
       list-small = omega (arith, a .count, a .checks .range)
 
-      module _ (lt : i < n) {x : Task} (task : x ≡ taskIn xs i) where
-        there : x ≡ taskAt (tasksIn xs) i
-        there = task ∙ sym (row-at noTask (taskIn xs) 32 i (omega (arith, list-small)) (omega arith))
+      module _ (lt : i < n) {x : Task} (task : x ≡ taskIn levels xs i) where
+        there : x ≡ taskAt (tasksIn levels xs) i
+        unfolding tasksIn
+        there =
+            task
+            ∙ sym (row-at noTask (taskIn levels xs) (shownIn levels (length xs)) i
+            (omega (arith, list-small, a .count)) (omega arith))
 
-        inside : i < countIn (length xs)
+        inside : i < countIn levels (length xs)
         inside = omega (arith, a .count)
 
         pub task-wrong : {f : ℕ} → f ≡ taskFault x → (f ≡ 0 → ⊥)
-            → faulty f (place + 1) ≡ checkOf (tableIn cores policy xs)
+            → faulty f (place + 1) ≡ checkOf (tableIn levels cores policy xs)
         task-wrong {f} e some =
-            checking-fault (tableIn cores policy xs) (a .checks) f inside (e ∙ ap taskFault there) some
+            checking-fault (tableIn levels cores policy xs) (a .checks) f inside (e ∙ ap taskFault there) some
 
         module _ {f : ℕ} (e : f ≡ taskFault x) (none : f ≡ 0) where
           pub task-right : LegalTask x
           task-right = task-legal x (sym e ∙ none)
 
-          pub list-step : {given′ : Flags} {is′ rs′ cs′ js′ : List ℕ} → Stored x i is rs cs js is′ rs′ cs′ js′
+          pub list-step : {given′ : Flags} {ls′ : Levels} {is′ rs′ cs′ js′ : List ℕ}
+              → Stored x i is rs cs js is′ rs′ cs′ js′
               → given′ ≡ held (λ j. pick (eqb j i) (min (x .flag) (flagIn given j)) (flagIn given j)) 32
-              → ListRead n given′ is′ rs′ cs′ js′ (i + 1) (place + 1)
-          list-step stored marked = record {
+              → ls′ ≡ withLevel ls i (x .level) → ListRead n given′ ls′ is′ rs′ cs′ js′ (i + 1) (place + 1)
+          list-step stored marked placed = record {
             count = a .count;
             checks =
-                checking-step (tableIn cores policy xs) (a .checks) inside
+                checking-step (tableIn levels cores policy xs) (a .checks) inside
                 (sym (e ∙ ap taskFault there) ∙ none);
-            loads = loading-step (a .loads) inside (omega (arith, list-small)) there stored marked;
+            loads = loading-step (a .loads) inside (omega (arith, list-small)) there stored marked placed;
           }
 
       pub list-end : {r : Loaded} → n ≤ i → r .answer ≡ Fine → r .head .policy ≡ policy
-          → r .head .cores ≡ cores → r .head .n ≡ n → r .given ≡ given
-          → ListLoaded cores policy xs r is rs cs js
-      list-end done answer same-policy same-cores same-n flags =
+          → r .head .cores ≡ cores → r .head .n ≡ n → r .head .levels ≡ ls → r .given ≡ given
+          → ListLoaded levels cores policy xs r is rs cs js
+      list-end done answer same-policy same-cores same-n same-levels flags =
           loading-end (a .loads) (omega (arith, a .count, a .checks .low))
-          (checking-end (tableIn cores policy xs) (a .checks) (omega (arith, a .count))) answer same-policy
-          same-cores (same-n ∙ a .count) flags
+          (checking-end (tableIn levels cores policy xs) (a .checks) (omega (arith, a .count))) answer
+          same-policy same-cores (same-n ∙ a .count) same-levels flags

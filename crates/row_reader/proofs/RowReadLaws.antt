@@ -3,10 +3,10 @@
 -- Assumes nothing.
 use Prim.Native.Nat.{ℕ, zero, suc, _+_, _≤_, _<_, min}
 use native.Mathlib.Omega.{arith}
-use mathlib.Core.Path.{_≡_, refl, sym, ap, subst, _∙_}
+use mathlib.Core.Path.{_≡_, refl, sym, ap, ap₂, subst, _∙_}
 use mathlib.Core.List.{List}
 use lib.Dec.{eqb}
-use lib.ListN.{length, drop}
+use lib.ListN.{length, drop, replicate}
 use borrow.Author.Tests.{lt-ltb, le-ltb}
 use Rattle.base.specs.Choice.{pick, orElse}
 use Rattle.base.specs.Rows.{row}
@@ -19,6 +19,8 @@ use Rattle.table.specs.Checks.{faulty}
 use Rattle.table.proofs.RangeLaws.{task-legal}
 use Rattle.flags.specs.declared.Flags.{Flags}
 use Rattle.flags.specs.Flags.{flagIn, held}
+use Rattle.rows.specs.declared.Levels.{Levels}
+use Rattle.rows.specs.Levels.{withLevel}
 use Rattle.rows.specs.Held.{EmptyRows}
 use Rattle.lines.specs.declared.Form.{Form}
 use Rattle.lines.specs.declared.Front.{Front}
@@ -41,9 +43,10 @@ none-after : (x y : ℕ) → orElse x y suc ≡ 0 → y ≡ 0
 none-after zero y e = e
 none-after (suc x) y e = absurd (let z : ⊥ = omega arith in z)
 
-fields-legal : (f : Form) (s : List ℕ) → taskLineFault f s ≡ 0 → LegalTask (taskOf (fieldsPart s))
+fields-legal : (f : Form) (level : ℕ) (s : List ℕ) → taskLineFault f level s ≡ 0
+    → LegalTask (taskOf level (fieldsPart s))
 unfolding taskLineFault
-fields-legal f s e = task-legal (taskOf (fieldsPart s)) (none-after (taskFrameFault f s) _ e)
+fields-legal f level s e = task-legal (taskOf level (fieldsPart s)) (none-after (taskFrameFault f s) _ e)
 
 -- a front that stops loads nothing
 pub front-refused : (s : List ℕ) {front : Front} {r : Loaded} (is rs cs js : List ℕ) {x p : ℕ}
@@ -63,12 +66,13 @@ module _ (f : Form) (s : List ℕ) (h : Table) where
   planned = withTasks f h s (h .n)
 
   -- the first i lines are right, and loaded
-  pub record RowsRead (given : Flags) (is rs cs js : List ℕ) (i at place : ℕ) : Type 0 where
+  pub record RowsRead (given : Flags) (levels : Levels) (is rs cs js : List ℕ) (i at place : ℕ) : Type 0 where
     pub lines : Progress f s h (row noTask (textTask f s) i) i at place
-    pub loads : Loading planned given is rs cs js i
+    pub loads : Loading planned given levels is rs cs js i
 
   pub rows-start : {is rs cs js : List ℕ} → TasksDue f s h → EmptyRows is rs cs js
-      → RowsRead (record { word = 0 }) is rs cs js 0 (lineLength (f .head .size)) 2
+      → RowsRead (record { word = 0 }) (record { of = replicate 32 0 }) is rs cs js 0
+      (lineLength (f .head .size)) 2
   rows-start due empty = record {
     lines =
         subst (λ (ts : List Task). Progress f s h ts 0 (lineLength (f .head .size)) 2)
@@ -76,36 +80,39 @@ module _ (f : Form) (s : List ℕ) (h : Table) where
     loads = loading-start planned empty;
   }
 
-  module _ {given : Flags} {is rs cs js : List ℕ} {i at place : ℕ} (a : RowsRead given is rs cs js i at place)
+  module _ {given : Flags} {levels : Levels} {is rs cs js : List ℕ} {i at place : ℕ}
+      (a : RowsRead given levels is rs cs js i at place)
     where
-      module _ (x : List ℕ) (r : TaskLine) (same : x ≡ drop at s)
-          (e : r ≡ taskAnswer (taskOf (fieldsPart x)) (taskLineFault f x)) (l : i < h .n) where
+      module _ (x : List ℕ) (r : TaskLine) (same : x ≡ drop at s) (level : ℕ) (due : level ≡ i + 1)
+          (e : r ≡ taskAnswer (taskOf level (fieldsPart x)) (taskLineFault f level x)) (l : i < h .n) where
         pub rows-wrong : (y : ℕ) → r ≡ Wrong y → stopped y place ≡ tasksRead f s h
-        rows-wrong y w = progress-wrong f s h _ i at place (a .lines) x r same e l y w
+        rows-wrong y w = progress-wrong f s h _ i at place (a .lines) x r same level due e l y w
 
         module _ (t : Task) (w : r ≡ Right t) where
-          right : (taskLineFault f x ≡ 0) × (t ≡ taskOf (fieldsPart x))
+          right : (taskLineFault f level x ≡ 0) × (t ≡ taskOf level (fieldsPart x))
           right = right-answer _ _ t (sym e ∙ w)
 
           pub task-right : LegalTask t
-          task-right = subst LegalTask (sym (right .1)) (fields-legal f x (right .0))
+          task-right = subst LegalTask (sym (right .1)) (fields-legal f level x (right .0))
 
           is-planned : t ≡ taskAt (planned .tasks) i
           unfolding withTasks
           is-planned =
               right .1
-              ∙ ap (λ (u : List ℕ). taskOf (fieldsPart u)) (same ∙ ap (λ k. drop k s) (a .lines .here))
+              ∙ ap₂ (λ k u. taskOf k (fieldsPart u)) due (same ∙ ap (λ k. drop k s) (a .lines .here))
               ∙ sym (row-at noTask (textTask f s) (h .n) i l (a .lines .range))
 
           inside : i < planned .n
           unfolding withTasks
           inside = l
 
-          pub rows-step : {given′ : Flags} {is′ rs′ cs′ js′ : List ℕ} → Stored t i is rs cs js is′ rs′ cs′ js′
+          pub rows-step : {given′ : Flags} {levels′ : Levels} {is′ rs′ cs′ js′ : List ℕ}
+              → Stored t i is rs cs js is′ rs′ cs′ js′
               → given′ ≡ held (λ j. pick (eqb j i) (min (t .flag) (flagIn given j)) (flagIn given j)) 32
-              → RowsRead given′ is′ rs′ cs′ js′ (i + 1) (at + lineLength (f .task .size)) (place + 1)
-          rows-step stored marked =
-              let p = progress-right f s h _ i at place (a .lines) x r same e l t w in
+              → levels′ ≡ withLevel levels i (t .level)
+              → RowsRead given′ levels′ is′ rs′ cs′ js′ (i + 1) (at + lineLength (f .task .size)) (place + 1)
+          rows-step stored marked placed =
+              let p = progress-right f s h _ i at place (a .lines) x r same level due e l t w in
               record {
                 lines =
                     subst
@@ -113,7 +120,8 @@ module _ (f : Form) (s : List ℕ) (h : Table) where
                     Progress f s h ts (i + 1) (at + lineLength (f .task .size)) (place + 1))
                     (p .stored) p;
                 loads =
-                    loading-step (a .loads) inside (omega (arith, a .lines .range)) is-planned stored marked;
+                    loading-step (a .loads) inside (omega (arith, a .lines .range)) is-planned stored marked
+                    placed;
               }
 
       -- the lines are all read
@@ -137,12 +145,12 @@ module _ (f : Form) (s : List ℕ) (h : Table) where
             ∙ ap (λ (x : Front). wholeOf (length s) x .answer) passes)
 
         pub rows-end : {r : Loaded} → length s ≤ at → r .answer ≡ Fine → r .head .policy ≡ h .policy
-            → r .head .cores ≡ h .cores → r .head .n ≡ h .n → r .given ≡ given
+            → r .head .cores ≡ h .cores → r .head .n ≡ h .n → r .head .levels ≡ levels → r .given ≡ given
             → FrontLoaded s (tasksRead f s h) r is rs cs js
         unfolding withTasks
-        rows-end {r} whole answer policy cores n flags =
+        rows-end {r} whole answer policy cores n same flags =
             subst (λ (x : Reading). LoadedAs (x .answer) (x .table) r is rs cs js) (sym reads)
-            (loading-end (a .loads) all refl answer policy cores n flags)
+            (loading-end (a .loads) all refl answer policy cores n same flags)
           where
             reads : wholeOf (length s) (tasksRead f s h) ≡ accepted planned
             reads =

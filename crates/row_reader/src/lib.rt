@@ -6,6 +6,7 @@ use lines::Head;
 use lines::HeadLine;
 use lines::TaskLine;
 use loading::Loaded;
+use rows::NO_LEVELS;
 use table::Checked;
 ghost use mathlib.Core.Path.{_≡_};
 ghost use Rattle.frames.specs.Digits.{digitTable};
@@ -39,11 +40,13 @@ fn load_tasks<'a>(
     let n = head.n;
     let line = 2 * form.task.size + 1;
     let mut given = NO_FLAGS;
+    let mut levels = NO_LEVELS;
     let mut i: usize = 0;
     let mut at = 2 * form.head.size + 1;
     let mut place: u32 = 2;
     while i < n {
-        let found = line_reader::read_task(digits, &text[at..], form);
+        // These lines hold no level: task k, whose line has place k + 1, has level k.
+        let found = line_reader::read_task(digits, &text[at..], form, place - 1);
         match found {
             TaskLine::Wrong(number) => {
                 return loading::refused(number, place);
@@ -52,6 +55,8 @@ fn load_tasks<'a>(
                 loading::put_task(task, i, inverse, rest, cost, reach);
                 let next = flags::with_flag(given, i, task.flag);
                 given = next;
+                let more = rows::with_level(levels, i, task.level);
+                levels = more;
             }
         }
         i += 1;
@@ -67,6 +72,7 @@ fn load_tasks<'a>(
             policy: head.policy,
             cores: head.cores,
             n: n,
+            levels: levels,
         },
         given: given,
     }

@@ -6,16 +6,18 @@ use native.Mathlib.Omega.{arith}
 use mathlib.Core.Path.{_≡_, refl, sym, ap, _∙_}
 use mathlib.Core.List.{List}
 use mathlib.Core.Logic.{inr}
-use lib.ListN.{set}
+use lib.ListN.{set, replicate}
 use Rattle.base.specs.Rows.{at, row}
 use Rattle.base.proofs.RowLaws.{row-at, fill-start, fill-step}
 use Rattle.base.proofs.LeastLaws.{no-worse-both}
 use Rattle.model.specs.Bound.{Legal, under, bound}
 use Rattle.model.proofs.PlaceLaws.{Places, Within, left-out}
 use Rattle.table.specs.declared.Table.{Table}
-use Rattle.table.specs.Table.{taskAt, policyOf, systemOf, LegalTable}
+use Rattle.table.specs.Table.{taskAt, levelAt, policyOf, systemOf, LegalTable}
 use Rattle.window.specs.Window.{inverseOf}
 use Rattle.rows.specs.declared.Head.{Head}
+use Rattle.rows.specs.declared.Levels.{Levels}
+use Rattle.rows.specs.Levels.{levelIn, withLevel, higherAt, LevelsTo}
 use Rattle.rows.specs.Held.{systemIn, LegalRows, EmptyRows, RowsTo, RowsOf}
 use Rattle.rows.specs.Held.{inverseOfTask, restOfTask, costOfTask, reachOfTask}
 
@@ -43,6 +45,19 @@ pub fill-all : {t : Table} {inverse rest cost reach : List ℕ} {i n : ℕ} → 
     → i ≡ n → RowsTo t inverse rest cost reach n
 fill-all a e = rw (sym e) a
 
+-- the levels likewise
+pub levels-none : {t : Table} {ls : Levels} → ls .of ≡ replicate 32 0 → LevelsTo t ls 0
+levels-none {t} e = record { of = e ∙ fill-start 0 (levelAt t) }
+
+pub levels-more : {t : Table} {ls next : Levels} {i l : ℕ} → i < 32 → LevelsTo t ls i
+    → next ≡ withLevel ls i l → l ≡ levelAt t i → LevelsTo t next (i + 1)
+levels-more {t} small a is e = record {
+  of = ap (λ ls. ls .of) is ∙ fill-step 0 (levelAt t) small (a .of) e;
+}
+
+pub levels-all : {t : Table} {ls : Levels} {i n : ℕ} → LevelsTo t ls i → i ≡ n → LevelsTo t ls n
+levels-all a e = rw (sym e) a
+
 -- the system that legal rows hold is legal
 pub rows-legal : {h : Head} {inverse rest cost reach : List ℕ} → LegalRows h inverse rest cost reach
     → Legal (systemIn h rest cost reach)
@@ -61,6 +76,12 @@ module _ {t : Table} {inverse rest cost reach : List ℕ} {h : Head} (legal : Le
 
     pub rows-time : (i : ℕ) → i < t .n → at cost i ≡ costOfTask t i
     rows-time i lt = read (costOfTask t) (is .rows .cost) i lt
+
+    pub rows-level : (i : ℕ) → i < t .n → levelIn (h .levels) i ≡ levelAt t i
+    rows-level i lt = read (levelAt t) (is .levels .of) i lt
+
+    pub rows-higher : (k i : ℕ) → k < t .n → i < t .n → higherAt (h .levels) k i ≡ systemOf t .higher k i
+    rows-higher k i lk li = cc (rows-level k lk, rows-level i li)
 
     period : (i : ℕ) → i < t .n → at rest i + at cost i ≡ taskAt (t .tasks) i .period
     period i lt =
@@ -84,6 +105,9 @@ module _ {t : Table} {inverse rest cost reach : List ℕ} {h : Head} (legal : Le
             divides =
                 read (inverseOfTask t) (is .rows .inverse) i inside ∙ ap inverseOf (sym (period i inside));
           };
+      levels = λ i lt.
+          let inside : i < t .n = omega (arith, is .n) in
+          omega (arith, rows-level i inside, legal .each i inside .level);
     }
 
     module _ (S fl : ℕ → ℕ) (k : ℕ) (inside : k < t .n) where
@@ -101,7 +125,7 @@ module _ {t : Table} {inverse rest cost reach : List ℕ} {h : Head} (legal : Le
         D = λ i lt. rows-deadline i (omega (arith, is .n));
         S = λ i lt. refl;
         flag = λ i lt. refl;
-        higher = inr (λ a b x y. refl);
+        higher = inr (λ a b x y. rows-higher a b (omega (arith, is .n)) (omega (arith, is .n)));
       }
 
       back : Within (under (systemIn h rest cost reach) S) (under (systemOf t) S) fl fl (λ i. i)
@@ -114,7 +138,7 @@ module _ {t : Table} {inverse rest cost reach : List ℕ} {h : Head} (legal : Le
         D = λ i lt. sym (rows-deadline i lt);
         S = λ i lt. refl;
         flag = λ i lt. refl;
-        higher = inr (λ a b x y. refl);
+        higher = inr (λ a b x y. sym (rows-higher a b x y));
       }
 
       -- under any slacks

@@ -2,27 +2,22 @@
 --
 --   document 01                              here
 --   T_i - C_i, C_i, D_i - C_i                at rest i, at cost i, at reach i
---   m, the policy, n                         the fields of a Head
---   i higher than k: an earlier place        higherAt k i
+--   m, the policy, n, the levels             the fields of a Head
 --   the table of the rows, without slacks    systemIn h rest cost reach
 --   1 ≤ C ≤ D ≤ T ≤ 1,000,000 and so on      LegalRows
 --
 -- Assumes nothing.
 use Prim.Native.Nat.{ℕ, _+_, _-_, _≤_, _<_}
 use mathlib.Core.Path.{_≡_}
-use mathlib.Core.Bool.{Bool}
 use mathlib.Core.List.{List}
 use lib.ListN.{replicate}
-use lib.Dec.{ltb}
 use Rattle.base.specs.Rows.{at, row}
 use Rattle.model.specs.Bound.{System}
 use Rattle.table.specs.declared.Table.{Table}
 use Rattle.table.specs.Table.{taskAt, policyOf}
 use Rattle.window.specs.Window.{inverseOf}
 use Rattle.rows.specs.declared.Head.{Head}
-
-abbrev pub higherAt : ℕ → ℕ → Bool
-higherAt k i = ltb i k
+use Rattle.rows.specs.Levels.{levelIn, higherAt, LevelsTo}
 
 abbrev pub systemIn : Head → List ℕ → List ℕ → List ℕ → System
 systemIn h rest cost reach = record {
@@ -33,7 +28,7 @@ systemIn h rest cost reach = record {
   C = λ i. at cost i;
   D = λ i. at reach i + at cost i;
   S = λ i. 0;
-  higher = λ k i. higherAt k i;
+  higher = λ k i. higherAt (h .levels) k i;
 }
 
 -- what the rows hold of one task
@@ -49,6 +44,7 @@ pub record LegalRows (h : Head) (inverse rest cost reach : List ℕ) : Type 0 wh
   pub cores : h .cores ≤ 16
   pub count : h .n ≤ 32
   pub each : (i : ℕ) → i < h .n → LegalPlace (at inverse i) (at rest i) (at cost i) (at reach i)
+  pub levels : (i : ℕ) → i < h .n → levelIn (h .levels) i ≤ 32
 
 -- rows to be filled
 pub record EmptyRows (inverses rests costs reaches : List ℕ) : Type 0 where
@@ -81,4 +77,5 @@ pub record RowsOf (t : Table) (inverse rest cost reach : List ℕ) (h : Head) : 
   pub policy : h .policy ≡ t .policy
   pub cores : h .cores ≡ t .cores
   pub n : h .n ≡ t .n
+  pub levels : LevelsTo t (h .levels) (t .n)
   pub rows : RowsTo t inverse rest cost reach (t .n)

@@ -14,7 +14,8 @@ use Rattle.flags.specs.declared.Flags.{Flags}
 use Rattle.flags.specs.Flags.{flagIn}
 use Rattle.flags.proofs.FlagLaws.{flag-small}
 use Rattle.rows.specs.declared.Head.{Head}
-use Rattle.rows.specs.Held.{higherAt, systemIn, LegalRows}
+use Rattle.rows.specs.Levels.{higherAt}
+use Rattle.rows.specs.Held.{systemIn, LegalRows}
 use Rattle.rows.proofs.HeldLaws.{rows-legal}
 use Rattle.largest.specs.Largest.{Largest}
 use Rattle.blocking.specs.Blocking.{blockIn}
@@ -87,7 +88,8 @@ under-legal slacks legal =
 module _ {h : Head} {inverse rest cost reach : List ℕ} (legal : LegalRows h inverse rest cost reach)
     (slacks : List ℕ) (fits : SlacksFit (h .n) reach slacks) (flags : Flags) (k : ℕ) (inside : k < h .n)
     {r : ℕ → ℕ}
-    (kept : Largest (blockIn (policyOf (h .policy)) higherAt (at cost) (flagIn flags) k) r (h .cores) (h .n))
+    (kept : Largest (blockIn (policyOf (h .policy)) (higherAt (h .levels)) (at cost) (flagIn flags) k) r
+    (h .cores) (h .n))
   where
     pub slack-rows-caps : (caps : List ℕ)
         → ((i : ℕ) → i < h .n

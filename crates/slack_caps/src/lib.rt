@@ -37,7 +37,7 @@ fn add_caps_under<'a>(
     let mut i: usize = 0;
     while i < n {
         let fi = flags::flag_at(flags, i);
-        let high = rows::higher(k, i);
+        let high = rows::higher(head.levels, k, i);
         let left = numbers::past(due, slacks[i]);
         let most = cap_for::cap_for(
             head.policy,

@@ -93,7 +93,7 @@ thirds = record {
   cores = 1;
   policy = 0;
   n = 3;
-  tasks = replicate 32 (record { flag = 1; period = 3; cost = 1; deadline = 3 });
+  tasks = replicate 32 (record { flag = 1; period = 3; cost = 1; deadline = 3; level = 1 });
 }
 
 pub rounded-down-flatters : (sumTo (λ i. 1000 * costAt thirds i / periodAt thirds i) 3 ≡ 999)

@@ -1,5 +1,5 @@
--- The faults 5 to 11 of a table's own numbers and of a task are given exactly when document 01 says so.
--- Assumes nothing.
+-- The faults 5 to 11 and 17 of a table's own numbers and of a task are given exactly when documents 01 and 02
+-- say so. Assumes nothing.
 use Prim.Native.Nat.{ℕ, _<_}
 use native.Mathlib.Omega.{arith}
 use mathlib.Core.Path.{_≡_, refl}
@@ -13,7 +13,7 @@ use Rattle.table.specs.declared.Table.{Table}
 use Rattle.table.specs.Table.{LegalTask}
 use Rattle.table.specs.Checks.{outside, headFault, taskFault, headFaultOf}
 use Rattle.table.specs.Faults.{Within, Outside, HeadWrong, cores, policy, count, TaskWrong, flag}
-use Rattle.table.specs.Faults.{period, deadline, cost, LegalHead}
+use Rattle.table.specs.Faults.{period, deadline, cost, level, LegalHead}
 
 -- the test of a range
 pub outside-true : (lo hi x : ℕ) → Outside lo hi x → outside lo hi x ≡ true
@@ -91,12 +91,21 @@ module _ {t : Task} where
         outside-false 1 (t .period) (t .deadline) d,
         outside-true 1 (t .deadline) (t .cost) o,
       )
+  wrong-task (level a b d e o) =
+      rw (
+        outside-false 0 1 (t .flag) a,
+        outside-false 1 1000000 (t .period) b,
+        outside-false 1 (t .period) (t .deadline) d,
+        outside-false 1 (t .deadline) (t .cost) e,
+        outside-true 1 32 (t .level) o,
+      )
 
   pub task-some : {f : ℕ} → TaskWrong t f → 0 < f
   task-some (flag o) = omega arith
   task-some (period a o) = omega arith
   task-some (deadline a b o) = omega arith
   task-some (cost a b d o) = omega arith
+  task-some (level a b d e o) = omega arith
 
 pub right-task : (t : Task) → LegalTask t → taskFault t ≡ 0
 unfolding taskFault
@@ -106,6 +115,7 @@ right-task t h =
       outside-false 1 1000000 (t .period) (omega (arith, h .deadline, h .cost, h .some), h .period),
       outside-false 1 (t .period) (t .deadline) (omega (arith, h .cost, h .some), h .deadline),
       outside-false 1 (t .deadline) (t .cost) (h .some, h .cost),
+      outside-false 1 32 (t .level) (h .some-level, h .level),
     )
 
 pub task-cases : (t : Task) → LegalTask t ⊎ ((f : ℕ) × TaskWrong t f)
@@ -114,7 +124,17 @@ task-cases t =
     (λ a. ⊎-elim (λ o. inr (9, period a o))
     (λ b. ⊎-elim (λ o. inr (10, deadline a b o))
     (λ d. ⊎-elim (λ o. inr (11, cost a b d o))
-    (λ e. inl (record { flag = a .1; period = b .1; deadline = d .1; cost = e .1; some = e .0 }))
+    (λ e. ⊎-elim (λ o. inr (17, level a b d e o))
+    (λ f. inl (record {
+      flag = a .1;
+      period = b .1;
+      deadline = d .1;
+      cost = e .1;
+      some = e .0;
+      some-level = f .0;
+      level = f .1;
+    }))
+    (range-cases 1 32 (t .level)))
     (range-cases 1 (t .deadline) (t .cost)))
     (range-cases 1 (t .period) (t .deadline)))
     (range-cases 1 1000000 (t .period)))

@@ -1,5 +1,5 @@
 -- The checks pass exactly the legal tables, and refuse every other with its first fault, in document 01's
--- words. Assumes nothing.
+-- words; a legal table is a legal system. Assumes nothing.
 use Prim.Native.Nat.{ℕ, suc, _+_, _<_}
 use native.Mathlib.Omega.{arith}
 use mathlib.Core.Path.{_≡_, sym, ap, _∙_}
@@ -9,9 +9,10 @@ use Rattle.base.specs.Choice.{pick}
 use Rattle.base.proofs.FirstLaws.{First, NoneTo, first-is, first-none, first-cases}
 use Rattle.base.proofs.RowLaws.{list-at}
 use Rattle.base.specs.Rows.{at}
+use Rattle.model.specs.Bound.{Legal}
 use Rattle.table.specs.declared.Table.{Table}
 use Rattle.table.specs.declared.Checked.the-variants.{Fine}
-use Rattle.table.specs.Table.{taskAt, flagAt, flagsOf, LegalTask, LegalTable}
+use Rattle.table.specs.Table.{taskAt, systemOf, flagAt, flagsOf, LegalTask, LegalTable}
 use Rattle.table.specs.Checks.{faultyTask, faulty, checkOf}
 use Rattle.table.specs.Faults.{TaskWrong, LegalHead, TableWrong, in-head, in-task}
 use Rattle.table.proofs.RangeLaws.{
@@ -32,6 +33,15 @@ use Rattle.table.proofs.CheckLaws.{all-fine}
 pub flags-at : (t : Table) (j : ℕ) → j < t .n → at (flagsOf t) j ≡ flagAt t j
 unfolding flagsOf
 flags-at t j h = list-at 0 (flagAt t) (t .n) j h
+
+-- what the laws of bounds ask of a system
+pub legal-system : {t : Table} → LegalTable t → Legal (systemOf t)
+legal-system h = record {
+  cores = h .some-core;
+  time = λ i lt. h .each i lt .some;
+  short = λ i lt. h .each i lt .cost;
+  period = λ i lt. h .each i lt .deadline;
+}
 
 module _ {t : Table} where
   pub table-head : LegalTable t → LegalHead t

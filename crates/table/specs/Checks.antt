@@ -1,11 +1,12 @@
--- Document 01, refusals 5 to 11, for a table that is given by value: the first fault met, with its place.
+-- Document 01, refusals 5 to 11, with document 02's 17, for a table that is given by value: the first fault
+-- met, with its place.
 --
 --   document 01                                          here
 --   a refusal, with its number and place                 refusal number place
 --   the first fault is the answer                        faulty number place
 --   5, 6, 7 of cores, policy, number of tasks            headFault m p n, 0 for none
---   8, 9, 10, 11 of flag, T, D, C                        taskFault t, 0 for none
---   5, 6, 7, then 8 to 11 task by task                   checkOf t
+--   8, 9, 10, 11, 17 of flag, T, D, C, level             taskFault t, 0 for none
+--   5, 6, 7, then 8 to 11 and 17 task by task            checkOf t
 --
 -- Assumes nothing.
 use Prim.Native.Nat.{ℕ, suc}
@@ -37,7 +38,8 @@ unfoldable pub taskFault : Task → ℕ
 taskFault t =
     pick (outside 0 1 (t .flag)) 8
     (pick (outside 1 1000000 (t .period)) 9
-    (pick (outside 1 (t .period) (t .deadline)) 10 (pick (outside 1 (t .deadline) (t .cost)) 11 0)))
+    (pick (outside 1 (t .period) (t .deadline)) 10
+    (pick (outside 1 (t .deadline) (t .cost)) 11 (pick (outside 1 32 (t .level)) 17 0))))
 
 -- of the table's own numbers, and of the task at a place
 abbrev pub headFaultOf : Table → ℕ

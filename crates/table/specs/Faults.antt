@@ -1,9 +1,10 @@
--- Document 01, refusals 5 to 11, in its own words: when each is given, and what has none of them.
+-- Document 01, refusals 5 to 11, and document 02's 17, in their own words: when each is given, and what has
+-- none of them.
 --
 --   document 01                                                here
 --   inside, outside the ranges above                           Within lo hi x, Outside lo hi x
 --   5, 6, 7: cores, policy, number of tasks, in that order     HeadWrong h
---   8, 9, 10, 11: flag, T, D, C, in that order                 TaskWrong t
+--   8, 9, 10, 11, 17: flag, T, D, C, level, in that order      TaskWrong t
 --   a head with no fault                                       LegalHead h
 --   the first fault of a table, with its place                 TableWrong t
 --
@@ -32,6 +33,8 @@ pub data TaskWrong (t : Task) : ℕ → Type 0 where
       → TaskWrong t 10
   cost : Within 0 1 (t .flag) → Within 1 1000000 (t .period) → Within 1 (t .period) (t .deadline)
       → Outside 1 (t .deadline) (t .cost) → TaskWrong t 11
+  level : Within 0 1 (t .flag) → Within 1 1000000 (t .period) → Within 1 (t .period) (t .deadline)
+      → Within 1 (t .deadline) (t .cost) → Outside 1 32 (t .level) → TaskWrong t 17
 
 pub record LegalHead (h : Table) : Type 0 where
   pub cores : Within 1 16 (h .cores)

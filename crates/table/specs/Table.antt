@@ -5,13 +5,15 @@
 --   policy 0, 1          EDF, FP
 --   T, C, D of a task    its fields period, cost, deadline
 --   flag 1, 0            preemptive, non-preemptive
+--   i higher than k      higherIn t k i: its level is smaller or equal
 --   a legal table        LegalTable
 --
 -- Assumes nothing.
 use Prim.Native.Nat.{ℕ, zero, suc, _≤_, _<_}
+use mathlib.Core.Bool.{Bool}
 use mathlib.Core.List.{List}
 use lib.ListN.{getD}
-use lib.Dec.{ltb}
+use lib.Dec.{leb}
 use Rattle.model.specs.Bound.{Policy, EDF, FP, System}
 use Rattle.base.specs.Rows.{listOf}
 use Rattle.table.specs.declared.Task.{Task}
@@ -19,7 +21,7 @@ use Rattle.table.specs.declared.Table.{Table}
 
 -- what stands past the last task
 abbrev pub noTask : Task
-noTask = record { flag = 0; period = 0; cost = 0; deadline = 0 }
+noTask = record { flag = 0; period = 0; cost = 0; deadline = 0; level = 0 }
 
 abbrev pub taskAt : List Task → ℕ → Task
 taskAt ts i = getD ts i noTask
@@ -28,7 +30,14 @@ abbrev pub policyOf : ℕ → Policy
 policyOf zero = EDF
 policyOf (suc _) = FP
 
--- edition 1: no slack, and an earlier place is a higher priority
+-- under FP i counts as higher than k if its level is smaller or equal; 1 is the highest level
+abbrev pub levelAt : Table → ℕ → ℕ
+levelAt t i = taskAt (t .tasks) i .level
+
+abbrev pub higherIn : Table → ℕ → ℕ → Bool
+higherIn t k i = leb (levelAt t i) (levelAt t k)
+
+-- edition 1: no slack
 abbrev pub systemOf : Table → System
 systemOf t = record {
   policy = policyOf (t .policy);
@@ -38,7 +47,7 @@ systemOf t = record {
   C = λ i. taskAt (t .tasks) i .cost;
   D = λ i. taskAt (t .tasks) i .deadline;
   S = λ i. 0;
-  higher = λ k i. ltb i k;
+  higher = λ k i. higherIn t k i;
 }
 
 -- the flag of the task at a place, and the flags of the table as sent
@@ -48,13 +57,15 @@ flagAt t i = taskAt (t .tasks) i .flag
 unfoldable pub flagsOf : Table → List ℕ
 flagsOf t = listOf (flagAt t) (t .n)
 
--- 1 ≤ C ≤ D ≤ T ≤ 1,000,000, and the flag 0 or 1
+-- 1 ≤ C ≤ D ≤ T ≤ 1,000,000, the flag 0 or 1, and the level 1 to 32
 pub record LegalTask (t : Task) : Type 0 where
   pub flag : t .flag ≤ 1
   pub period : t .period ≤ 1000000
   pub deadline : t .deadline ≤ t .period
   pub cost : t .cost ≤ t .deadline
   pub some : 1 ≤ t .cost
+  pub some-level : 1 ≤ t .level
+  pub level : t .level ≤ 32
 
 pub record LegalTable (t : Table) : Type 0 where
   pub some-core : 1 ≤ t .cores

@@ -1,4 +1,4 @@
-// Tasks and tables by value, and the checks 5 to 11 of document 01 in their order.
+// Tasks and tables by value, and the checks 5 to 11 of document 01 in their order, with document 02's 17.
 ghost use mathlib.Core.Path.{_≡_};
 ghost use Rattle.table.specs.Checks.{outside, headFault, taskFault, checkOf};
 
@@ -8,6 +8,7 @@ pub struct Task {
     pub period: u32,
     pub cost: u32,
     pub deadline: u32,
+    pub level: u32,
 }
 
 // A table of the first n of its tasks.
@@ -24,6 +25,7 @@ pub const NO_TASK: Task = Task {
     period: 0,
     cost: 0,
     deadline: 0,
+    level: 0,
 };
 
 // A refusal: document 01's number, and its place.
@@ -62,7 +64,7 @@ pub fn head_fault(cores: u32, policy: u32, n: usize) -> u32
     if 32 < n { 7 } else { 0 }
 }
 
-// The first of the faults 8, 9, 10, 11, and 0 for none.
+// The first of the faults 8, 9, 10, 11, 17, and 0 for none.
 pub fn task_fault(t: Task) -> u32
     ensures { λ r. ⌜ r ≡ taskFault t ⌝ }
 {
@@ -76,13 +78,12 @@ pub fn task_fault(t: Task) -> u32
         return 10;
     }
     if outside(1, t.deadline, t.cost) {
-        11
-    } else {
-        0
+        return 11;
     }
+    if outside(1, 32, t.level) { 17 } else { 0 }
 }
 
-// The checks 5 to 11 of a whole table: its numbers first, then task by task.
+// The checks 5 to 11 and 17 of a whole table: its numbers first, then task by task.
 pub fn check_table(t: Table) -> Checked
     ensures { λ r. ⌜ r ≡ checkOf t ⌝ }
 {

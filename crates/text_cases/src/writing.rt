@@ -43,7 +43,7 @@ fn start(s: &[u8], i: usize) -> usize
     4294967296 * high + low
 }
 
-fn task(s: &[u8], i: usize) -> Task
+fn task(s: &[u8], i: usize, level: u32) -> Task
     requires { ⌜ i ≤ 1000 ⌝ }
 {
     Task {
@@ -51,16 +51,17 @@ fn task(s: &[u8], i: usize) -> Task
         period: word(s, i + 4),
         cost: word(s, i + 8),
         deadline: word(s, i + 12),
+        level: level,
     }
 }
 
-// The first k tasks, and zeros past them.
+// The first k tasks, with their places as levels, and zeros past them.
 fn tasks(s: &[u8], k: usize) -> [Task; 32] {
     let mut all = [NO_TASK; 32];
     let mut i: usize = 0;
     while i < 32 {
         if i < k {
-            all[i] = task(s, 24 + 16 * i);
+            all[i] = task(s, 24 + 16 * i, i as u32 + 1);
         }
         i += 1;
     }

@@ -1,3 +1,4 @@
+pub mod ClearedLaws
 pub mod PartLaws
 pub mod PlanLaws
 pub mod Unique

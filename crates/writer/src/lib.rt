@@ -1,17 +1,17 @@
-// Writing a plan: the checks of a table, the room that its text needs, the head line and then the task lines.
-// Document 02, Wish 1.
+// Writing a plan: the checks of a table, the room that its text needs, whether its levels are its places, the
+// head line and then the task lines. Document 02, Wishes 1 and 8.
 ghost use mathlib.Core.Path.{_≡_};
 ghost use lib.ListN.{take};
 ghost use Rattle.table.specs.Table.{LegalTable};
 ghost use Rattle.lines.specs.Form.{form1};
-ghost use Rattle.lines.specs.Writes.{headBytes, planText};
+ghost use Rattle.lines.specs.Writes.{headBytes, planText, unplaced};
 ghost use Rattle.writer.specs.Written.{tableFrom, TextPut, WroteAs};
 use table::Checked;
 use table::Refusal;
 use table::Table;
 use table::Task;
 
-// The place after the last line, or a refusal: document 01's 5 to 11, or 16.
+// The place after the last line, or a refusal: 5 to 11 and 17, or 16, or 18.
 pub enum Written {
     End(usize),
     Refused(Refusal),
@@ -45,10 +45,11 @@ fn head_frame(t: Table) -> [u8; 16]
     ]
 }
 
-// A legal table's text, or 16 where there is too little room for it. The start may be any number.
+// A legal table's text; or 16 where there is too little room for it, and then 18 where its levels are not its
+// places: the lines hold none. The start may be any number.
 fn put_text(t: Table, out: &mut [u8], at: usize) -> Written
     requires { ⌜ LegalTable t ⌝ }
-    ensures { λ r. ⌜ TextPut (planText t) (now (out .entry)) at r (now (out .exit)) ⌝ }
+    ensures { λ r. ⌜ TextPut (unplaced t) (planText t) (now (out .entry)) at r (now (out .exit)) ⌝ }
 {
     let full = Refusal {
         number: 16,
@@ -61,6 +62,12 @@ fn put_text(t: Table, out: &mut [u8], at: usize) -> Written
     }
     if room - at < 11 + 31 * n {
         return Written::Refused(full);
+    }
+    if lines_writer::unplaced(t) != 0 {
+        return Written::Refused(Refusal {
+            number: 18,
+            place: 0,
+        });
     }
     let frame = head_frame(t);
     let first = frame_writer::put_line(&mut out[at..], frame, 4);

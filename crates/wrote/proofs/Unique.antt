@@ -24,8 +24,8 @@ wrote-only p q = (only (p .yes) (q .yes), only (p .bytes) (q .bytes), only (p .a
 pub write-tasks-only : (κs : Lfts 3) (a : Dens κs write-tasks.ps) (x y : resT write-tasks.r κs .Denot)
     (s s′ : AtExit (endedOf 3 write-tasks.ps write-tasks.r) κs) → write-tasks-reads.Post κs a x s
     → write-tasks-reads.Post κs a y s′
-    → (x ≡ y) × (now (s .1 .1 .1 .0) ≡ now (s′ .1 .1 .1 .0))
-    × (now (s .1 .1 .1 .1 .1 .0) ≡ now (s′ .1 .1 .1 .1 .1 .0))
+    → (x ≡ y) × (now (s .1 .1 .1 .1 .0) ≡ now (s′ .1 .1 .1 .1 .0))
+    × (now (s .1 .1 .1 .1 .1 .1 .0) ≡ now (s′ .1 .1 .1 .1 .1 .1 .0))
 write-tasks-only κs a x y s s′ p q = wrote-only p q
 
 pub write-changed-only : (κs : Lfts 3) (a : Dens κs write-changed.ps)

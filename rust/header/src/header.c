@@ -66,6 +66,35 @@ uint32_t header_fewest_tasks(uint32_t cores, uint32_t policy, const eskihrum_tas
     return answer.cores;
 }
 
+/* The jobs on tasks with levels, by edition; the round count is handed on by itself, or the fewest cores. */
+uint32_t header_levels(int force, int edition, uint32_t cores, uint32_t policy,
+                       const eskihrum_level_task *tasks, size_t n, eskihrum_record *records, size_t room,
+                       uint32_t told[FIELDS]) {
+    eskihrum_answer answer;
+    if (edition == 2)
+        answer = force ? eskihrum_force_levels_2(cores, policy, tasks, n, records, room)
+                       : eskihrum_test_levels_2(cores, policy, tasks, n, records, room);
+    else
+        answer = force ? eskihrum_force_levels(cores, policy, tasks, n, records, room)
+                       : eskihrum_test_levels(cores, policy, tasks, n, records, room);
+    hand_on(answer, told);
+    return answer.rounds;
+}
+
+uint32_t header_fewest_levels(uint32_t cores, uint32_t policy, const eskihrum_level_task *tasks, size_t n,
+                              eskihrum_record *records, size_t room, uint32_t told[FIELDS]) {
+    eskihrum_answer answer = eskihrum_fewest_levels(cores, policy, tasks, n, records, room);
+    hand_on(answer, told);
+    return answer.cores;
+}
+
+size_t header_write_levels(uint32_t cores, uint32_t policy, const eskihrum_level_task *tasks, size_t n,
+                           uint8_t *buffer, size_t bytes, size_t start, uint32_t told[FIELDS]) {
+    eskihrum_answer answer = eskihrum_write_levels(cores, policy, tasks, n, buffer, bytes, start);
+    hand_on(answer, told);
+    return eskihrum_end(answer);
+}
+
 /* What a writer answers: the end place is handed on by itself. */
 size_t header_write_tasks(uint32_t cores, uint32_t policy, const eskihrum_task *tasks, size_t n,
                           uint8_t *buffer, size_t bytes, size_t start, uint32_t told[FIELDS]) {
@@ -148,6 +177,10 @@ uint32_t header_non_preemptive(void) {
 
 size_t header_most(void) {
     return ESKIHRUM_TASKS;
+}
+
+size_t header_lowest_level(void) {
+    return ESKIHRUM_LEVELS;
 }
 
 size_t header_plan_bytes(void) {

@@ -3,6 +3,8 @@
 
 use std::ffi::{c_char, c_int, CStr};
 
+pub mod levels;
+
 /// A task and a record as the header's structs are laid out; the tests see to it that they are.
 pub type Task = [u32; 4];
 pub type Record = [u32; 3];

@@ -1,7 +1,6 @@
 //! The fewest cores: the header's functions against the second program.
 
 use eskihrum_header::{fewest_plan, fewest_tasks, Record, Task, Told};
-use second::compare::flags_word;
 use second::fewest_compare::{short, Said, Searcher};
 
 struct Header;
@@ -21,8 +20,14 @@ fn as_records(numbers: &mut [u32], run: impl FnOnce(&mut [Record]) -> (Told, u32
     for (three, record) in numbers.chunks_mut(3).zip(&records) {
         three.copy_from_slice(record);
     }
-    assert_eq!(told.word, flags_word(&numbers[..3 * changed]), "the flags in one word");
-    Said { number: told.number, place: told.place, cores, forced: told.forced, passes: told.passes }
+    Said {
+        number: told.number,
+        place: told.place,
+        cores,
+        forced: told.forced,
+        passes: told.passes,
+        word: told.word,
+    }
 }
 
 impl Searcher for Header {

@@ -3,7 +3,7 @@
 use second::corpus::{bad, examples, good};
 use second::hunt::{catches, smallest};
 use second::plan::read;
-use second::wrong::WRONG;
+use second::slips::WRONG;
 use std::io;
 
 pub fn run() -> io::Result<()> {

@@ -15,14 +15,14 @@ answered-requires : tie.Need-answered-requires
 answered-requires c κs =
     let load = c .before .before .before .before .before .before in
     let xs = load .before .before .before .before .before .before .before .args .tasks .now in
-    (list-rows _ _ xs (load .load-list .ensures), refl)
+    (list-rows _ _ _ xs (load .load-list .ensures), refl)
 
 put-said-requires : tie.Need-put-said-requires
 put-said-requires c κs =
     let said = c .before .before .before in
     let load = said .before .before .before .before .before .before .before in
     let xs = load .before .before .before .before .before .before .before .args .tasks .now in
-    flat-fits _ _ _ (list-is _ _ xs (load .load-list .ensures) _ _ (said .answered .ensures))
+    flat-fits _ _ _ (list-is _ _ _ xs (load .load-list .ensures) _ _ (said .answered .ensures))
     (list-small _ _ _ _ _ _)
 
 word-of-requires : tie.Need-word-of-requires
@@ -30,7 +30,7 @@ word-of-requires c κs =
     let said = c .before .before .before .before .before .before in
     let load = said .before .before .before .before .before .before .before in
     let xs = load .before .before .before .before .before .before .before .args .tasks .now in
-    few-said _ _ _ (list-is _ _ xs (load .load-list .ensures) _ _ (said .answered .ensures))
+    few-said _ _ _ (list-is _ _ _ xs (load .load-list .ensures) _ _ (said .answered .ensures))
     (list-small _ _ _ _ _ _)
 
 returns : tie.Need-returns
@@ -39,7 +39,7 @@ returns c =
     let said = put .before .before .before .before in
     let load = said .before .before .before .before .before .before .before in
     let xs = load .before .before .before .before .before .before .before .args .tasks .now in
-    asked-as _ _ _ (list-is _ _ xs (load .load-list .ensures) _ _ (said .answered .ensures))
+    asked-as _ _ _ (list-is _ _ _ xs (load .load-list .ensures) _ _ (said .answered .ensures))
     (list-small _ _ _ _ _ _) _ (put .put-said .ensures) (c .word-of .ensures)
 
 pub tasks-asked-spec : {M : Type 1} → statement M

@@ -17,7 +17,7 @@ answered-requires : tie.Need-answered-in-requires
 answered-requires c κs =
     let load = c .before .before .before .before .before .before in
     let xs = load .before .before .before .before .before .before .before .args .tasks .now in
-    (list-rows _ _ xs (load .load-list .ensures), refl)
+    (list-rows _ _ _ xs (load .load-list .ensures), refl)
 
 put-said-requires : tie.Need-put-said-requires
 put-said-requires c κs =
@@ -26,7 +26,7 @@ put-said-requires c κs =
     let xs = load .before .before .before .before .before .before .before .args .tasks .now in
     flat-fits _ _ _
     (ap (λ (x : Rounded). x .done)
-    (list-found _ _ xs (load .load-list .ensures) _ _ _ (said .answered-in .ensures)))
+    (list-found _ _ _ xs (load .load-list .ensures) _ _ _ (said .answered-in .ensures)))
     (list-in-small _ _ _ _ _ _ _)
 
 word-of-requires : tie.Need-word-of-requires
@@ -34,7 +34,7 @@ word-of-requires c κs =
     let said = c .before .before .before .before .before .before .before in
     let load = said .before .before .before .before .before .before .before in
     let xs = load .before .before .before .before .before .before .before .args .tasks .now in
-    few-in _ _ _ (list-found _ _ xs (load .load-list .ensures) _ _ _ (said .answered-in .ensures))
+    few-in _ _ _ (list-found _ _ _ xs (load .load-list .ensures) _ _ _ (said .answered-in .ensures))
     (list-in-small _ _ _ _ _ _ _)
 
 returns : tie.Need-returns
@@ -43,7 +43,7 @@ returns c =
     let said = put .before .before .before .before .before in
     let load = said .before .before .before .before .before .before .before in
     let xs = load .before .before .before .before .before .before .before .args .tasks .now in
-    asked-in _ _ _ (list-found _ _ xs (load .load-list .ensures) _ _ _ (said .answered-in .ensures))
+    asked-in _ _ _ (list-found _ _ _ xs (load .load-list .ensures) _ _ _ (said .answered-in .ensures))
     (list-in-small _ _ _ _ _ _ _) _ (put .put-said .ensures) (c .word-of .ensures)
 
 pub tasks-asked-in-spec : {M : Type 1} → statement M

@@ -4,7 +4,7 @@ use mathlib.Core.Path.{sym, _∙_}
 use borrow.Author.Needs.{needs}
 use Rattle.base.specs.Rows.{at}
 use Rattle.flags.specs.Flags.{flagIn}
-use Rattle.rows.specs.Held.{higherAt}
+use Rattle.rows.specs.Levels.{higherAt}
 use Rattle.blocking.proofs.BlockLaws.{empty-size, edf-kept, preemptive-kept, blocking-kept}
 use Rattle.blocking.proofs.keep_blocking.Statement.{statement}
 use Rattle.blocking.proofs.keep_blocking.Tie as tie
@@ -19,8 +19,9 @@ returns-2 c =
     let s = c .before .before .before .before in
     let a = s .args in (
       empty-size (s .pre .3),
-      preemptive-kept (a .head .policy) higherAt (at (a .cost .now)) (flagIn (a .flags)) (a .k) _ _ _
-          (s .pre .0) (s .pre .3) (λ z. c .if2 .taken (c .before .flag-at .ensures ∙ z)),
+      preemptive-kept (a .head .policy) (higherAt (a .head .levels)) (at (a .cost .now))
+          (flagIn (a .flags)) (a .k) _ _ _ (s .pre .0) (s .pre .3)
+          (λ z. c .if2 .taken (c .before .flag-at .ensures ∙ z)),
     )
 
 returns-3 : tie.Need-returns-3
@@ -29,8 +30,9 @@ returns-3 c =
     let read = listed .before .before .before in
     let a = read .before .before .before .args in (
       c .keep-largest .ensures .0,
-      blocking-kept (a .head .policy) higherAt (at (a .cost .now)) (flagIn (a .flags)) (a .k) _ _
-          (read .before .if1 .left) (sym (read .flag-at .ensures) ∙ listed .before .before .if2 .left)
+      blocking-kept (a .head .policy) (higherAt (a .head .levels)) (at (a .cost .now))
+          (flagIn (a .flags)) (a .k) _ _ (read .before .if1 .left)
+          (sym (read .flag-at .ensures) ∙ listed .before .before .if2 .left)
           (listed .candidates .ensures) (c .keep-largest .ensures .1),
     )
 

@@ -6,7 +6,7 @@ use borrow.Author.Needs.{needs}
 use Rattle.base.specs.Rows.{at}
 use Rattle.model.specs.Bound.{FP}
 use Rattle.flags.specs.Flags.{flagIn}
-use Rattle.rows.specs.Held.{higherAt}
+use Rattle.rows.specs.Levels.{higherAt}
 use Rattle.candidates.specs.Candidates.{blockFor, candidateIn}
 use Rattle.rows.proofs.FillLaws.{Filled, filled-start, filled-step, filled-end}
 use Rattle.candidates.proofs.Lines.{block-read}
@@ -14,11 +14,11 @@ use Rattle.candidates.proofs.candidates.Statement.{statement}
 use Rattle.candidates.proofs.candidates.Tie as tie
 
 abbrev Inv-loop : tie.InvT-loop
-Inv-loop n cost flags k x₀ i₀ x i =
-    (i ≤ n) × (Filled (λ j. blockFor FP 0 (flagIn flags j) (higherAt k j) (at cost j)) x₀ x i)
+Inv-loop n levels cost flags k x₀ i₀ x i =
+    (i ≤ n) × (Filled (λ j. blockFor FP 0 (flagIn flags j) (higherAt levels k j) (at cost j)) x₀ x i)
 
 abbrev μ-loop : tie.MeasureT-loop
-μ-loop n cost flags k x₀ i₀ x i = n - i
+μ-loop n levels cost flags k x₀ i₀ x i = n - i
 
 loop-holds : tie.Need-loop-holds Inv-loop μ-loop
 loop-holds c = (omega arith, filled-start _ _ (c .pre .3))

@@ -161,7 +161,7 @@ module _ {M : Type 1} (𝓤 : URA M) (H : Heap 𝓤) (A : Atoms 𝓤) (W : Given
             (here !) (init ! 7 refl (tt, record { fits = omega (arith, room .1) })) $ assigns !
             (bin ! (load ! (from ! (fld ! refl (stop !))) (look-in ! 21 (sub ! 0 refl (whole !))))
             (var ! 7 refl) tt) (here !) (init ! 5 refl (tt, tt)) $
-            rewrite ! 5 (λ (p : ℕ). ‵ (fat fullShare tyPtr l₉ 0 (vptr b p))) (sym (place-is 16 o (i .0)))
+            rewrite ! 5 (λ (p : ℕ). ‵ (fat fullShare tyPtr l₉ 0 (vptr b p))) (sym (place-is 20 o (i .0)))
             refl $
             elem-out ! T.the-row (Is T.the-row) (shows 𝓤 H A T.the-row) (LL.vals T.the-type T′.the-laws)
             (LL.tells T.the-type T′.the-laws) q′ ys (i .0) noTask b o inside (λ g.

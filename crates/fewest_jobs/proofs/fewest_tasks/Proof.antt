@@ -11,7 +11,7 @@ tell-requires c κs = found-fits _ _ _ (c .before .before .list-fewest .ensures)
 
 returns : tie.Need-returns
 returns c =
-    tasks-told _ _
+    tasks-told _ _ _
     (c .before .before .before .before .before .before .before .before .before .before .before .before .before
     .args .tasks .now) _ _ _ _ _ _ _ _
     (c .before .before .before .before .before .before .before .before .before .count-in .ensures)

@@ -7,6 +7,7 @@ use mathlib.Core.Path.{refl}
 use borrow.Author.Needs.{needs}
 use Rattle.base.specs.Sums.{sumTo}
 use Rattle.flags.specs.Flags.{flagIn}
+use Rattle.rows.specs.Levels.{levelIn}
 use Rattle.rows.specs.Held.{systemIn}
 use Rattle.forcing.proofs.StartLaws.{rows-sized, Passing, passing-start, passing-small}
 use Rattle.forcing.proofs.PassingLaws.{passing-ends, passing-done, passing-falls, passing-more}
@@ -14,11 +15,11 @@ use Rattle.forcing.proofs.force_rows.Statement.{statement}
 use Rattle.forcing.proofs.force_rows.Tie as tie
 
 abbrev Inv-loop : tie.InvT-loop
-Inv-loop head inverse rest cost reach bounds₀ n flags₀ end₀ passes₀ bounds flags end passes =
-    Passing (systemIn head rest cost reach) flags₀ flags end bounds passes
+Inv-loop head inverse rest cost reach bounds₀ n flags₀ below₀ passes₀ bounds flags below passes =
+    Passing (systemIn head rest cost reach) (levelIn (head .levels)) flags₀ flags below bounds passes
 
 abbrev μ-loop : tie.MeasureT-loop
-μ-loop head inverse rest cost reach bounds₀ n flags₀ end₀ passes₀ bounds flags end passes =
+μ-loop head inverse rest cost reach bounds₀ n flags₀ below₀ passes₀ bounds flags below passes =
     sumTo (flagIn flags) (head .n)
 
 loop-holds : tie.Need-loop-holds Inv-loop μ-loop
@@ -27,7 +28,7 @@ loop-holds c = passing-start (rows-sized (c .pre .0)) (c .pre .1) (c .pre .2)
 search-on-requires : tie.Need-search-on-requires Inv-loop μ-loop
 search-on-requires c κs =
     let inv = c .before .loop .inv in
-    (c .before .before .pre .0, inv .within, inv .floors)
+    (c .before .before .pre .0, inv .floors)
 
 failing-of-requires : tie.Need-failing-of-requires Inv-loop μ-loop
 failing-of-requires c κs = c .before .before .before .before .pre .0 .count
@@ -90,7 +91,7 @@ loop-again c =
     let s = turn .before in
     passing-more (rows-sized (s .pre .0)) (turn .loop .inv) (passed .search-on .ensures)
     (failed .failing-of .ensures) (counted .last-lacking .ensures) (made .before .if1 .left)
-    (made .with-failing .ensures) (s .args .head .policy) refl (c .end-of .ensures)
+    (made .with-failing .ensures) (s .args .head .policy) refl (c .below-of .ensures)
 
 pub force-rows-spec : {M : Type 1} → statement M
 force-rows-spec =

@@ -23,12 +23,15 @@ abbrev μ-loop : tie.MeasureT-loop
 loop-holds : tie.Need-loop-holds Inv-loop μ-loop
 loop-holds c = let due = c .before .before .before .pre .1 in (due .sized, progress-start _ _ _ due)
 
+sub-read-task-2 : tie.Need-sub-read-task-2 Inv-loop μ-loop
+sub-read-task-2 c = omega (arith, c .before .before .loop .inv .1 .line)
+
 returns : tie.Need-returns Inv-loop μ-loop
 returns c =
     let l = c .before .before .before .before .before .before .before .loop in
     c .stopped .ensures
     ∙ progress-wrong _ _ _ _ _ _ _ (l .inv .1) _ _ (tail-part (l .at) _)
-    (c .before .before .before .before .read-task .ensures)
+    _ (omega (arith, l .inv .1 .line)) (c .before .before .before .before .read-task .ensures)
     (omega arith) _ (c .before .before .found .given .1)
 
 mul-tasks : tie.Need-mul-tasks Inv-loop μ-loop
@@ -56,7 +59,7 @@ loop-again c =
     let l = c .before .before .before .before .before .before .loop in (
       l .inv .0,
       progress-right _ _ _ _ _ _ _ (l .inv .1) _ _ (tail-part (l .at) _)
-          (c .before .before .before .read-task .ensures)
+          _ (omega (arith, l .inv .1 .line)) (c .before .before .before .read-task .ensures)
           (omega arith) _ (c .before .found2 .given .1),
     )
 
@@ -68,7 +71,7 @@ read-tasks-spec =
     tie.close
     (tie.spec Inv-loop μ-loop (λ c. search needs) (λ c. search needs) (λ c. search needs)
     (λ c. search needs) loop-holds (λ c. c .before .loop .inv .1 .inside)
-    (λ c. omega (arith, c .before .loop .inv .1 .inside)) (λ c. search needs)
+    (λ c. omega (arith, c .before .loop .inv .1 .inside)) (λ c. search needs) sub-read-task-2
     (λ c κs. (search needs, c .before .before .loop .inv .0)) (λ c. search needs) (λ c κs. search needs)
     returns (λ c. search needs) mul-tasks
     array-set-from-tasks add-i add-at-2 add-place (λ c. search needs) loop-again returns-2)

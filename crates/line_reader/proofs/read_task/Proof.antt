@@ -39,10 +39,11 @@ returns : tie.Need-returns
 returns c =
     let a = c .before .before .before in
     let s : List ℕ = now (a .args .text) in
-    let w : taskLineFault (a .args .form) s ≡ _ =
-    task-frame-fault (a .args .form) s _ (c .before .frame-fault .ensures) (c .if1 .taken)
+    let w : taskLineFault (a .args .form) (a .args .level) s ≡ _ =
+    task-frame-fault (a .args .form) s (a .args .level) _ (c .before .frame-fault .ensures) (c .if1 .taken)
     in
-    answer-wrong (Right (taskOf (fieldsPart s))) Wrong (taskLineFault (a .args .form) s) _ w
+    answer-wrong (Right (taskOf (a .args .level) (fieldsPart s))) Wrong
+    (taskLineFault (a .args .form) (a .args .level) s) _ w
     (λ z. c .if1 .taken (sym w ∙ z))
 
 task-fields-requires : tie.Need-task-fields-requires
@@ -54,15 +55,15 @@ task-fields-requires c κs =
 returns-2 : tie.Need-returns-2
 returns-2 c =
     let s : List ℕ = now (c .before .before .before .before .before .before .before .args .text) in
-    fields-wrong _ s _ (right (c .before .before .before .before) .whole)
-    (c .before .before .task-fields .ensures ∙ ap taskOf (tail-part 2 s))
+    fields-wrong _ _ s _ (right (c .before .before .before .before) .whole)
+    (c .before .before .task-fields .ensures ∙ ap (taskOf _) (tail-part 2 s))
     _ (c .before .task-fault .ensures) (c .if2 .taken)
 
 returns-3 : tie.Need-returns-3
 returns-3 c =
     let s : List ℕ = now (c .before .before .before .before .before .before .before .args .text) in
-    fields-right _ s _ (right (c .before .before .before .before) .whole)
-    (c .before .before .task-fields .ensures ∙ ap taskOf (tail-part 2 s))
+    fields-right _ _ s _ (right (c .before .before .before .before) .whole)
+    (c .before .before .task-fields .ensures ∙ ap (taskOf _) (tail-part 2 s))
     _ (c .before .task-fault .ensures) (c .if2 .left)
 
 pub read-task-spec : {M : Type 1} → statement M

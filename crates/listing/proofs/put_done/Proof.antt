@@ -10,7 +10,7 @@ put-accepted-requires c κs =
     let said = c .before .before in
     let s = said .before .before .before .before in
     let fits = rw (said .said .given .1) at (s .pre .1) in
-    (s .pre .0, omega (arith, fits))
+    (s .pre .0 _ (said .said .given .1), omega (arith, fits))
 
 put-refusal-requires : tie.Need-put-refusal-requires
 put-refusal-requires c κs =

@@ -8,7 +8,7 @@ use Rattle.round_listing.proofs.put_forced.Tie as tie
 put-done-requires : tie.Need-put-done-requires
 put-done-requires c κs =
     let s = c .before .before .before in
-    (s .pre .legal, s .pre .before)
+    (λ v says. s .pre .legal, s .pre .before)
 
 put-rounds-requires : tie.Need-put-rounds-requires
 put-rounds-requires c κs =

@@ -46,18 +46,35 @@ returns-4 c =
 returns-5 : tie.Need-returns-5
 unfolding taskFault
 returns-5 c =
-    let d = c .before .before in
+    let e = c .before .before in
+    let d = e .before .before in
     let b = d .before .before in
     let a = b .before .before in
     simp (
       sym (a .before .outside .ensures) ∙ a .if1 .left,
       sym (b .before .outside2 .ensures) ∙ b .if2 .left,
       sym (d .before .outside3 .ensures) ∙ d .if3 .left,
-      sym (c .before .outside4 .ensures) ∙ c .if4 .left,
+      sym (e .before .outside4 .ensures) ∙ e .if4 .left,
+      sym (c .before .outside5 .ensures) ∙ c .if5 .taken,
+    )
+
+returns-6 : tie.Need-returns-6
+unfolding taskFault
+returns-6 c =
+    let e = c .before .before in
+    let d = e .before .before in
+    let b = d .before .before in
+    let a = b .before .before in
+    simp (
+      sym (a .before .outside .ensures) ∙ a .if1 .left,
+      sym (b .before .outside2 .ensures) ∙ b .if2 .left,
+      sym (d .before .outside3 .ensures) ∙ d .if3 .left,
+      sym (e .before .outside4 .ensures) ∙ e .if4 .left,
+      sym (c .before .outside5 .ensures) ∙ c .if5 .left,
     )
 
 pub task-fault-spec : {M : Type 1} → statement M
 task-fault-spec =
     tie.close
     (tie.spec (λ c κs. search needs) returns (λ c κs. search needs) returns-2 (λ c κs. search needs) returns-3
-    (λ c κs. search needs) returns-4 returns-5)
+    (λ c κs. search needs) returns-4 (λ c κs. search needs) returns-5 returns-6)

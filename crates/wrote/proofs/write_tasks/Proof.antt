@@ -7,7 +7,7 @@ use Rattle.wrote.proofs.write_tasks.Tie as tie
 
 returns : tie.Need-returns
 returns c =
-    tasks-wrote _ _
+    tasks-wrote _ _ _
     (c .before .before .before .before .before .before .before .before .before .before .before .before .before
     .before .args .tasks .now) _ _ _ _ _ _ _ _ _
     (c .before .before .before .before .before .before .before .before .before .before .count-in .ensures)

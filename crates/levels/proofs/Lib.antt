@@ -1,0 +1,2 @@
+pub mod AgreeLaws
+pub mod LevelLaws
