@@ -1,5 +1,7 @@
 // Either job on a plan text and on a flat table, over rows and flags from reading to the records: no table
 // and no list of records goes from one level to the next.
+#![tactic(auto)]
+
 ghost use Rattle.std.specs.Prelude.{◌≡◌, length, replicate};
 ghost use Rattle.flat.specs.Flat.{flat_after, Fits};
 ghost use Rattle.planner.specs.Rows.{said_done};
@@ -11,7 +13,7 @@ use planner::{Answer, Job, Record, Said};
 use table::{Checked, Refusal};
 
 // An answer, how many records were written, and their flags in one word.
-#[derive(Drop)]
+#[derive(Clone, Copy)]
 pub struct Asked {
     pub answer: Answer,
     pub count: usize,

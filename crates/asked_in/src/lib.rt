@@ -1,5 +1,7 @@
 // Either job under either edition, on a plan text and on a flat table, over rows and flags from reading to
 // the records. Under the first edition what is loaded is answered as `asked` does it, without rounds.
+#![tactic(auto)]
+
 ghost use Rattle.std.specs.Prelude.{◌≡◌, replicate};
 ghost use Rattle.edition_2.specs.Rows.{said_rounded};
 ghost use Rattle.asked.specs.Asked.{Answerable, AnsweredBy};
@@ -13,7 +15,7 @@ use planner::Job;
 use table::{Checked, Refusal};
 
 // An answer, how many records were written, and the round count of the last test.
-#[derive(Drop)]
+#[derive(Clone, Copy)]
 pub struct AskedIn {
     pub asked: Asked,
     pub rounds: u32,

@@ -1,14 +1,8 @@
 -- Laws of `least`: what its answer is, how it moves with the test, and that the iteration of Theorem 1
 -- reaches it where g never falls. By induction over the range.
 -- Assumes nothing.
-use Prim.Native.Nat.{ℕ, zero, suc, ◌+◌, ◌-◌, ◌≤◌, ◌<◌}
-use native.Mathlib.Omega.{arith}
-use native.Mathlib.Nat.{eq-or-lt_of_le, le_refl}
-use mathlib.Core.Path.{◌≡◌, refl, sym, ap, ap₂, ◌∙◌, subst}
-use mathlib.Core.Logic.{◌⊎◌, inl, inr, ⊎_elim}
-use mathlib.Core.Bool.{Bool, true, false}
-use lib.Dec.{leb}
-use borrow.Author.Tests.{leb-true, leb-false, lt-leb}
+use Rattle.std.proofs.Common.{ℕ, zero, suc, ◌+◌, ◌-◌, ◌≤◌, ◌<◌, arith, eq-or-lt_of_le, le_refl, ◌≡◌, refl, sym, ap, ap₂, ◌∙◌, subst, ◌⊎◌, inl, inr, ⊎_elim, Bool, true, false, leb, leb-true, leb-false}
+use borrow.Author.Tests.{lt-leb}
 use Rattle.base.specs.Choice.{pick}
 use Rattle.base.specs.Least.{NoWorse, least, iterate}
 use Rattle.base.proofs.OrderLaws.{le_or_lt}

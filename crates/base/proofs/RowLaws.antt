@@ -1,16 +1,7 @@
 -- Lists by place, and rows of 32 places, filled from the front by a loop: at the start, after one store more,
 -- and at the end. Over any element. Assumes nothing.
-use Prim.Native.Nat.{ℕ, zero, suc, ◌+◌, ◌≤◌, ◌<◌}
-use native.Mathlib.Omega.{arith}
-use native.Mathlib.Nat.{eq-or-lt_of_le}
-use mathlib.Core.Path.{◌≡◌, refl, sym, ap, ap₂, ◌∙◌}
-use mathlib.Core.Bool.{Bool, true, false}
-use mathlib.Core.List.{List, ◌∷◌}
-use mathlib.Core.Logic.{◌⊎◌, ⊎_elim}
-use lib.ListN.{get_or, length, set, replicate, length-set, get_or-replicate, length-replicate}
-use lib.Seq.{get_or-set_same, get_or-set_other, ext_get_or}
-use lib.Dec.{ltb}
-use borrow.Author.Tests.{lt-ltb, le-ltb, ltb-true, ltb-false}
+use Rattle.std.proofs.Common.{ℕ, zero, suc, ◌+◌, ◌≤◌, ◌<◌, arith, eq-or-lt_of_le, ◌≡◌, refl, sym, ap, ap₂, ◌∙◌, Bool, true, false, List, ◌∷◌, ◌⊎◌, ⊎_elim, get_or, length, set, replicate, length-set, get_or-set_same, get_or-set_other, ext_get_or, ltb, lt-ltb, le-ltb, ltb-true, ltb-false}
+use Rattle.std.proofs.Math.ListN.{get_or-replicate, length-replicate}
 use Rattle.base.specs.Choice.{pick}
 use Rattle.base.specs.Rows.{list_from, list_of, row}
 

@@ -1,13 +1,7 @@
 -- `top_to f m n` is the largest sum of at most m of f 0, .., f (n - 1): no choice of at most m places sums to
 -- more, and one sums to it.
 -- Assumes nothing.
-use Prim.Native.Nat.{ℕ, zero, suc, ◌+◌, ◌*◌, ◌≤◌, ◌<◌}
-use native.Mathlib.Omega.{arith}
-use native.Mathlib.Nat.{eq-or-lt_of_le}
-use mathlib.Core.Path.{◌≡◌, refl, sym, ap, ◌∙◌}
-use mathlib.Core.Logic.{⊎_elim}
-use lib.Dec.{eqb}
-use borrow.Author.Tests.{eq-eqb, ne_eqb}
+use Rattle.std.proofs.Common.{ℕ, zero, suc, ◌+◌, ◌*◌, ◌≤◌, ◌<◌, arith, eq-or-lt_of_le, ◌≡◌, refl, sym, ap, ◌∙◌, ⊎_elim, eqb, eq-eqb, ne_eqb}
 use Rattle.base.specs.Choice.{pick}
 use Rattle.base.specs.Sums.{sum_to, top_to}
 use Rattle.base.proofs.SumLaws.{sum_same, top_none}

@@ -1,8 +1,6 @@
 -- Any two rows that the promise of `keep_blocking` allows sum to the same under every cap.
 -- Assumes nothing.
-use Prim.Native.Nat.{ℕ, min}
-use mathlib.Core.Path.{◌≡◌}
-use mathlib.Core.Bool.{Bool}
+use Rattle.std.proofs.Common.{ℕ, min, ◌≡◌, Bool}
 use Rattle.base.specs.Sums.{sum_to}
 use Rattle.model.specs.Bound.{Policy}
 use Rattle.largest.specs.Largest.{Largest}

@@ -1,5 +1,7 @@
 // The candidates of task k for the m largest, kept once for every length. Under EDF, and beside a preemptive
 // task, there are none; under FP the m largest of min(W, C - 1, q) are those with the largest C, at every q.
+#![tactic(auto)]
+
 ghost use Rattle.std.specs.Prelude.{◌≡◌, ℕ, ◌≤◌, ◌<◌, length, replicate};
 ghost use Rattle.base.specs.Rows.{at};
 ghost use Rattle.table.specs.Table.{policy_of};

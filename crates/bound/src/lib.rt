@@ -2,6 +2,8 @@
 //
 // The search counts in document 01's q, which has the same range for both kinds of task, 1 to D - C + 1, and
 // the same bound, q + C - 1. Only the length differs: q itself, or C - 1 more for a preemptive task.
+#![tactic(auto)]
+
 ghost use Rattle.std.specs.Prelude.{◌≡◌, ◌-◌, ◌<◌};
 ghost use Rattle.model.specs.Bound.{by_flag, bound};
 ghost use Rattle.flags.specs.Flags.{flag_in};

@@ -1,12 +1,7 @@
 -- How words that are written one after the other make one word: the only laws that a chain of writes needs.
 -- Each is on plain lists and numbers, for any word. Assumes nothing.
-use Prim.Native.Nat.{ℕ, suc, ◌+◌, ◌≤◌, ◌<◌}
-use native.Mathlib.Omega.{arith}
-use mathlib.Core.Path.{◌≡◌, refl, sym, ap, ◌∙◌}
-use mathlib.Core.List.{List, [], ◌∷◌, ◌++◌, append_assoc}
-use lib.ListN.{length, get_or, take, drop, set, length-append, length-take, length-drop, take-append-drop}
-use lib.Seq.{length-take-le, take_at, drop_at, drop-drop, set_split, take-suc, take-length}
-use native.Mathlib.Numerals.{add-one}
+use Rattle.std.proofs.Common.{ℕ, suc, ◌+◌, ◌≤◌, ◌<◌, arith, ◌≡◌, refl, sym, ap, ◌∙◌, List, [], ◌∷◌, ◌++◌, append_assoc, length, get_or, take, drop, set, length-append, length-take, length-drop, take-append-drop, length-take-le, take_at, drop_at, drop-drop, take-suc, add-one}
+use Rattle.std.proofs.Math.Seq.{set_split, take-length}
 use Rattle.buffer.specs.Put.{Put}
 
 -- nothing is written

@@ -1,8 +1,6 @@
 -- The candidate of one task, by the tests that lead to it: one law for each way through `block_for`.
 -- Assumes nothing.
-use Prim.Native.Nat.{ℕ, zero, suc, ◌-◌}
-use mathlib.Core.Path.{◌≡◌, refl}
-use mathlib.Core.Bool.{Bool, true, false}
+use Rattle.std.proofs.Common.{ℕ, zero, suc, ◌-◌, ◌≡◌, refl, Bool, true, false}
 use Rattle.model.specs.Bound.{FP}
 use Rattle.candidates.specs.Candidates.{block_for}
 

@@ -1,7 +1,5 @@
 -- Any two rows that the promise of `candidates` allows hold the same candidates. Assumes nothing.
-use Prim.Native.Nat.{ℕ, ◌<◌}
-use mathlib.Core.Path.{◌≡◌}
-use mathlib.Core.Bool.{Bool}
+use Rattle.std.proofs.Common.{ℕ, ◌<◌, ◌≡◌, Bool}
 use Rattle.base.proofs.Unique.{only}
 use Rattle.candidates.specs.Candidates.{candidate_in}
 

@@ -1,5 +1,7 @@
 // The candidates of a non-preemptive task under FP, apart from the length: C - 1 of each lower non-preemptive
 // task.
+#![tactic(auto)]
+
 ghost use Rattle.std.specs.Prelude.{◌≡◌, ℕ, ◌≤◌, ◌<◌, length};
 ghost use Rattle.base.specs.Rows.{at};
 ghost use Rattle.model.specs.Bound.{FP};

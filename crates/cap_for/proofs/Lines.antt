@@ -1,10 +1,6 @@
 -- The cap of one task, by the tests that lead to it: one law for each way through `cap_for`.
 -- Assumes nothing.
-use Prim.Native.Nat.{ℕ, ◌≤◌, ◌<◌}
-use mathlib.Core.Path.{◌≡◌}
-use mathlib.Core.Bool.{Bool, true, false}
-use lib.Dec.{ltb}
-use borrow.Author.Tests.{lt-ltb, le-ltb}
+use Rattle.std.proofs.Common.{ℕ, ◌≤◌, ◌<◌, ◌≡◌, Bool, true, false, ltb, lt-ltb, le-ltb}
 use Rattle.table.specs.Table.{policy_of}
 use Rattle.blocking.proofs.BlockLaws.{fixed_priority}
 use Rattle.cap_for.specs.CapFor.{cap_for}

@@ -1,4 +1,6 @@
 // What limits the share of one other task in task k's sum, apart from q and from what is kept of a candidate.
+#![tactic(auto)]
+
 ghost use Rattle.std.specs.Prelude.{◌≡◌, ◌+◌, ltb};
 ghost use Rattle.model.specs.Bound.{work_in};
 ghost use Rattle.table.specs.Table.{policy_of};

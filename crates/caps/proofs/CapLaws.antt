@@ -2,13 +2,7 @@
 -- over plain numbers. So the sum under the caps is what is summed with the candidates kept, under any slacks,
 -- and without slack the whole sum.
 -- Assumes nothing.
-use Prim.Native.Nat.{ℕ, zero, suc, ◌+◌, ◌-◌, ◌/◌, ◌≤◌, ◌<◌, min}
-use native.Mathlib.Omega.{arith}
-use native.Mathlib.Nat.{div-mul-le_self, mul-le-mul_left}
-use mathlib.Core.Path.{◌≡◌, refl, ap, ◌∙◌}
-use mathlib.Core.Bool.{Bool, true, false}
-use lib.Dec.{eqb, ltb}
-use borrow.Author.Tests.{lt-ltb, le-ltb}
+use Rattle.std.proofs.Common.{ℕ, zero, suc, ◌+◌, ◌-◌, ◌/◌, ◌≤◌, ◌<◌, min, arith, div-mul-le_self, mul-le-mul_left, ◌≡◌, refl, ap, ◌∙◌, Bool, true, false, eqb, ltb, lt-ltb, le-ltb}
 use Rattle.base.specs.Choice.{pick}
 use Rattle.base.specs.Sums.{sum_to, top_to}
 use Rattle.base.proofs.SumLaws.{sum_same, sum_add, top_same}

@@ -1,8 +1,6 @@
 -- Any two counts that `used_of` allows give the same sum, and so do any two rows of caps that `caps_of`
 -- allows, at each length of the range. Assumes nothing.
-use Prim.Native.Nat.{ℕ, ◌+◌, ◌-◌, ◌≤◌, min}
-use mathlib.Core.Path.{◌≡◌, sym, ◌∙◌}
-use mathlib.Core.List.{List}
+use Rattle.std.proofs.Common.{ℕ, ◌+◌, ◌-◌, ◌≤◌, min, ◌≡◌, sym, ◌∙◌, List}
 use Rattle.base.specs.Rows.{at}
 use Rattle.base.specs.Sums.{sum_to}
 use Rattle.base.proofs.Unique.{only}

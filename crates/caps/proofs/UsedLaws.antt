@@ -1,10 +1,6 @@
 -- The loop that looks for the last number above 0.
 -- Assumes nothing.
-use Prim.Native.Nat.{ℕ, ◌-◌, ◌<◌}
-use native.Mathlib.Omega.{arith}
-use native.Mathlib.Nat.{eq-or-lt_of_le}
-use mathlib.Core.Path.{◌≡◌, sym, ap, ◌∙◌}
-use mathlib.Core.Logic.{⊎_elim}
+use Rattle.std.proofs.Common.{ℕ, ◌-◌, ◌<◌, arith, eq-or-lt_of_le, ◌≡◌, sym, ap, ◌∙◌, ⊎_elim}
 use Rattle.caps.specs.Caps.{Used}
 
 pub used_start : (x : ℕ → ℕ) (n : ℕ) → Used x n n

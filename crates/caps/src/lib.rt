@@ -1,6 +1,8 @@
 // What limits the share of each other task in task k's sum, apart from q: one number a task, good for every
 // length. Candidates are no case of their own: EDF has none, and under FP the m that count are shares too,
 // with the cap C - 1.
+#![tactic(auto)]
+
 ghost use Rattle.std.specs.Prelude.{◌≡◌, ℕ, ◌≤◌, ◌<◌, length, replicate};
 ghost use Rattle.base.specs.Rows.{at};
 ghost use Rattle.flags.specs.Flags.{flag_in};

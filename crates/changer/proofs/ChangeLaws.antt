@@ -1,10 +1,6 @@
 -- The table with the flags of the records, turn by turn; and the stages of the answer, over plain values.
 -- Assumes nothing.
-use Prim.Native.Nat.{ℕ, zero, suc, ◌+◌, ◌≤◌, ◌<◌}
-use native.Mathlib.Omega.{arith}
-use mathlib.Core.Path.{◌≡◌, refl, sym, ap, ◌∙◌}
-use mathlib.Core.List.{List}
-use lib.ListN.{set, replicate}
+use Rattle.std.proofs.Common.{ℕ, zero, suc, ◌+◌, ◌≤◌, ◌<◌, arith, ◌≡◌, refl, sym, ap, ◌∙◌, List, set, replicate}
 use Rattle.base.specs.Choice.{or_else}
 use Rattle.base.specs.Rows.{at, row}
 use Rattle.base.proofs.RowLaws.{row_at, row_same, fill_start, fill_step, fill_end}

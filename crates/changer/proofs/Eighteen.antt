@@ -1,10 +1,6 @@
 -- Document 02, Wish 8, of the table as changed: 18 is never answered, since a plan that is read has its
 -- places as levels, and forcing changes flags only. Assumes nothing.
-use Prim.Native.Nat.{ℕ}
-use native.Mathlib.Omega.{arith}
-use mathlib.Core.Path.{◌≡◌, refl, sym, ap, ◌∙◌}
-use mathlib.Core.List.{List}
-use lib.ListN.{length}
+use Rattle.std.proofs.Common.{ℕ, arith, ◌≡◌, refl, sym, ap, ◌∙◌, List, length}
 use Rattle.table.specs.Checks.{refusal}
 use Rattle.planner.specs.declared.Answer.{Answer}
 use Rattle.planner.specs.declared.Answer.TheVariants.{Given, Refused as Stopped}

@@ -1,13 +1,8 @@
 -- The table as changed: the same system, the flags where forcing ended; so its test gives the bounds of the
 -- last pass, and forcing it ends at once. Assumes nothing.
-use Prim.Native.Nat.{ℕ, zero, suc, ◌≤◌, ◌<◌}
-use native.Mathlib.Omega.{arith}
-use mathlib.Core.Path.{◌≡◌, refl, sym, ap, ap₂, subst, fun_ext, ◌∙◌}
-use mathlib.Core.Bool.{Bool, true, false}
-use mathlib.Core.List.{List}
-use lib.Dec.{leb, ltb, eqb}
-use lib.ListN.{get_or-eq_default}
-use borrow.Author.Tests.{ltb-true, ltb-false, eq-eqb}
+use Rattle.std.proofs.Common.{ℕ, zero, suc, ◌≤◌, ◌<◌, arith, ◌≡◌, refl, sym, ap, ap₂, subst, ◌∙◌, Bool, true, false, List, leb, ltb, eqb, ltb-true, ltb-false, eq-eqb}
+use Rattle.std.proofs.Math.Path.{fun_ext}
+use Rattle.std.proofs.Math.ListN.{get_or-eq_default}
 use Rattle.base.specs.Choice.{or_else}
 use Rattle.base.specs.Rows.{at, row}
 use Rattle.base.proofs.SumLaws.{sum_cap}

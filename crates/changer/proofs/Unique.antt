@@ -1,8 +1,6 @@
 -- Any two results that a promise of a public function of this crate allows are equal, by the promise as a
 -- caller reads it: the answer, and the buffer's bytes as the function returns. Assumes nothing.
-use Prim.Native.Nat.{ℕ}
-use mathlib.Core.Path.{◌≡◌}
-use mathlib.Core.List.{List}
+use Rattle.std.proofs.Common.{ℕ, ◌≡◌, List}
 use borrow.Fn.Kinds.{Dens, ended_of}
 use contract.Lifetimes.{Lfts}
 use denote.Triple.Clauses.{AtExit}

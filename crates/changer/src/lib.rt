@@ -1,5 +1,7 @@
 // The table as changed: a plan text is forced, and the plan of the sent table with the flags at the end of
 // forcing is written into a buffer. Document 02, Wish 1.
+#![tactic(auto)]
+
 ghost use Rattle.std.specs.Prelude.{◌≡◌};
 ghost use Rattle.table.specs.Table.{LegalTable};
 ghost use Rattle.flags.specs.Flags.{flag_in};
@@ -14,7 +16,7 @@ use table::{Checked, NO_TASK, Refusal, Table, Task};
 use writer::Written;
 
 // The place after the last line, or a refusal with the passes that were made: forcing's own, or 16.
-#[derive(Drop)]
+#[derive(Clone, Copy)]
 pub enum Changed {
     End(usize),
     Refused { why: Refusal, passes: u32 },

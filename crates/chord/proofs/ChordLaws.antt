@@ -1,11 +1,8 @@
 -- What has grown is concave: where the line fails at the start and at some later length, it fails at each
 -- length between them.
 -- Assumes nothing.
-use Prim.Native.Nat.{ℕ, zero, suc, ◌+◌, ◌*◌, ◌≤◌, ◌<◌, min}
-use native.Mathlib.Omega.{arith}
-use native.Mathlib.Nat.{mul-le-mul_left, mul-le-mul_right, min-le_left, le_of_mul-le-mul_left, eq-zero-or-pos}
-use mathlib.Core.Path.{◌≡◌, subst}
-use mathlib.Core.Logic.{◌⊎◌, ⊎_elim}
+use Rattle.std.proofs.Common.{ℕ, zero, suc, ◌+◌, ◌*◌, ◌≤◌, ◌<◌, min, arith, mul-le-mul_left, mul-le-mul_right, eq-zero-or-pos, ◌≡◌, subst, ◌⊎◌, ⊎_elim}
+use Rattle.std.proofs.Math.Nat.{min-le_left, le_of_mul-le-mul_left}
 use Rattle.base.specs.Sums.{sum_to}
 use Rattle.base.proofs.OrderLaws.{le_or_lt}
 use Rattle.chord.specs.Jump.{grown}

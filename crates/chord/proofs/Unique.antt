@@ -1,10 +1,6 @@
 -- What `advance` promises is one number.
 -- Assumes nothing.
-use Prim.Native.Nat.{ℕ, ◌+◌, ◌*◌, ◌≤◌, ◌<◌}
-use native.Mathlib.Omega.{arith}
-use native.Mathlib.Nat.{eq-or-lt_of_le}
-use mathlib.Core.Path.{◌≡◌}
-use mathlib.Core.Logic.{⊎_elim}
+use Rattle.std.proofs.Common.{ℕ, ◌+◌, ◌*◌, ◌≤◌, ◌<◌, arith, eq-or-lt_of_le, ◌≡◌, ⊎_elim}
 use Rattle.base.proofs.OrderLaws.{le_or_lt}
 use Rattle.base.proofs.Unique.{Only}
 use Rattle.chord.specs.Jump.{grown, Jumped}

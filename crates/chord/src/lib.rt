@@ -1,12 +1,14 @@
 // The jump from a length that fails to the first at which the line can hold, if the shares only grow as they
 // must. What has grown is concave, so a chord lies below it: where the line fails at both ends, it fails
 // between them.
+#![tactic(auto)]
+
 ghost use Rattle.std.specs.Prelude.{◌≤◌};
 ghost use Rattle.base.specs.Rows.{at};
 ghost use Rattle.chord.specs.Jump.{GrownBefore, Over, Jumped};
 
 // What the shares have grown by, one length before d: low, and d - 1 for each of `count` more.
-#[derive(Drop)]
+#[derive(Clone, Copy)]
 struct Grown {
     low: u32,
     count: u32,

@@ -1,8 +1,6 @@
 -- Document 01's sentence about lower-priority preemptive tasks, of tables, with levels: a bound depends on
 -- the task itself and on what it sees, the higher tasks and the lower non-preemptive ones. Assumes nothing.
-use Prim.Native.Nat.{ℕ, ◌<◌}
-use native.Mathlib.Omega.{arith}
-use mathlib.Core.Path.{◌≡◌, sym, ap, ◌∙◌}
+use Rattle.std.proofs.Common.{ℕ, ◌<◌, arith, ◌≡◌, sym, ap, ◌∙◌}
 use Rattle.base.specs.Rows.{at}
 use Rattle.model.specs.Bound.{bound}
 use Rattle.model.proofs.BoundLaws.{bound_same}

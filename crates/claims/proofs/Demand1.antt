@@ -1,13 +1,7 @@
 -- The work behind demand 1: every call has exactly one answer, by what it sends or by its first fault; a plan
 -- has the same in either case of its letters.
 -- Assumes nothing.
-use Prim.Native.Nat.{ℕ, ◌≤◌, ◌<◌, min}
-use native.Mathlib.Omega.{arith}
-use mathlib.Core.Path.{◌≡◌, refl, sym, ap, ap₂, subst, ◌∙◌}
-use mathlib.Core.Logic.{◌⊎◌, ◌↔◌, ⊎_elim}
-use mathlib.Core.List.{List}
-use lib.ListN.{length, take, replicate}
-use lib.Seq.{length-take-le, get_or-take, ext_get_or}
+use Rattle.std.proofs.Common.{ℕ, ◌≤◌, ◌<◌, min, arith, ◌≡◌, refl, sym, ap, ap₂, subst, ◌∙◌, ◌⊎◌, ◌↔◌, ⊎_elim, List, length, take, replicate, length-take-le, get_or-take, ext_get_or}
 use Rattle.base.proofs.OrderLaws.{le_or_lt}
 use Rattle.table.specs.declared.Task.{Task}
 use Rattle.table.specs.declared.Table.{Table}

@@ -1,14 +1,6 @@
 -- The work behind demand 3: sequences of steps end, in the flags that forcing gives out; what is given out is
 -- least, and refusal 14 is final. Assumes nothing.
-use Prim.Native.Nat.{ℕ, zero, suc, ◌≤◌, ◌<◌}
-use native.Mathlib.Omega.{arith}
-use native.Mathlib.Nat.{eq-zero-or-pos}
-use mathlib.Core.Path.{◌≡◌, refl, sym, ap, ◌∙◌}
-use mathlib.Core.Logic.{◌⊎◌, inl, inr, ⊎_elim, ◌↔◌}
-use mathlib.Core.Bool.{true}
-use mathlib.Core.List.{List}
-use lib.Dec.{eqb}
-use borrow.Author.Tests.{eq-eqb, ne_eqb}
+use Rattle.std.proofs.Common.{ℕ, zero, suc, ◌≤◌, ◌<◌, arith, eq-zero-or-pos, ◌≡◌, refl, sym, ap, ◌∙◌, ◌⊎◌, inl, inr, ⊎_elim, ◌↔◌, true, List, eqb, eq-eqb, ne_eqb}
 use Rattle.base.specs.Choice.{pick}
 use Rattle.model.specs.Bound.{System, bound}
 use Rattle.model.specs.Demands.{Passes, Settled, Holds, Step, Steps, step_count}

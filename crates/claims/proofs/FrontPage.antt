@@ -3,13 +3,7 @@
 -- of run_plan and run_tasks allows. Under FP a task counts as higher by its level: `system_of` of the crate
 -- `table`, and the page of `claims_levels`. The words: specs/Words, specs/Results, specs/Algorithm2.
 -- Assumes nothing.
-use Prim.Native.Nat.{ℕ, ◌+◌, ◌≤◌, ◌<◌}
-use mathlib.Core.Path.{◌≡◌}
-use mathlib.Core.Bool.{true, false}
-use mathlib.Core.Logic.{◌⊎◌, ◌↔◌}
-use mathlib.Core.List.{List}
-use lib.Dec.{T}
-use lib.ListN.{length, take}
+use Rattle.std.proofs.Common.{ℕ, ◌+◌, ◌≤◌, ◌<◌, ◌≡◌, true, false, ◌⊎◌, ◌↔◌, List, T, length, take}
 use Rattle.base.specs.Rows.{at}
 use Rattle.model.specs.Bound.{bound}
 use Rattle.model.specs.Demands.{Passes, Settled, Holds, Step, Steps, step_count}

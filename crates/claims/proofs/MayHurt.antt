@@ -1,13 +1,8 @@
 -- What may hurt, over calls: see specs/NeverHurts.antt for what is refuted. A legal table is sent as a list
 -- of its tasks, so that a claim over calls would be one over tables, and `easier` has tables that refute it.
 -- Assumes nothing.
-use Prim.Native.Nat.{◌≤◌, ◌<◌}
-use native.Mathlib.Omega.{arith}
-use mathlib.Core.Path.{refl, sym, ap, ◌∙◌}
-use mathlib.Core.Bool.{true}
-use mathlib.Core.Logic.{⊎_elim}
-use mathlib.Core.List.{List}
-use lib.ListN.{length, take, replicate, get_or-eq_default}
+use Rattle.std.proofs.Common.{◌≤◌, ◌<◌, arith, refl, sym, ap, ◌∙◌, true, ⊎_elim, List, length, take, replicate}
+use Rattle.std.proofs.Math.ListN.{get_or-eq_default}
 use Rattle.base.specs.Sums.{sum_to, top_to}
 use Rattle.base.specs.Least.{least, first_from}
 use Rattle.base.specs.Rows.{list_from, row}

@@ -1,14 +1,7 @@
 -- What a yes means, from the planner's promise and the theorem of the crate `schedule`: the bounds are kept
 -- in every schedule by the rules, and such schedules exist for exactly what may be asked. Assumes nothing.
-use Prim.Native.Nat.{ℕ, zero, suc, ◌+◌, ◌≤◌, ◌<◌}
-use native.Mathlib.Omega.{arith}
-use native.Mathlib.Nat.{le_of_eq, le_antisymm}
-use mathlib.Core.Path.{◌≡◌, refl, sym, ap, ◌∙◌}
-use mathlib.Core.Bool.{Bool, true, false}
-use mathlib.Core.Logic.{◌↔◌, inr}
-use mathlib.Core.List.{List}
-use lib.Dec.{eqb}
-use borrow.Author.Tests.{eqb-true, eqb-false, leb-true, le-leb}
+use Rattle.std.proofs.Common.{ℕ, zero, suc, ◌+◌, ◌≤◌, ◌<◌, arith, le_of_eq, le_antisymm, ◌≡◌, refl, sym, ap, ◌∙◌, Bool, true, false, ◌↔◌, inr, List, eqb, eqb-true, leb-true, le-leb}
+use borrow.Author.Tests.{eqb-false}
 use Rattle.model.specs.Bound.{System, bound}
 use Rattle.model.specs.Demands.{Passes}
 use Rattle.schedule.specs.Schedule.{Follows}

@@ -2,14 +2,7 @@
 -- `easier` says of its table: yes exactly if forcing accepts it, the marks in the records are the forced
 -- tasks, and the bounds there are those of the last test.
 -- Assumes nothing.
-use Prim.Native.Nat.{ℕ, zero, suc, ◌-◌, ◌≤◌, ◌<◌}
-use native.Mathlib.Omega.{arith}
-use native.Mathlib.Nat.{le_of_eq, le_refl}
-use mathlib.Core.Path.{◌≡◌, refl, sym, ap, subst, ◌∙◌}
-use mathlib.Core.Bool.{true}
-use mathlib.Core.Logic.{inr}
-use mathlib.Core.List.{List}
-use lib.ListN.{length}
+use Rattle.std.proofs.Common.{ℕ, zero, suc, ◌-◌, ◌≤◌, ◌<◌, arith, le_of_eq, le_refl, ◌≡◌, refl, sym, ap, subst, ◌∙◌, true, inr, List, length}
 use Rattle.base.specs.Choice.{pick}
 use Rattle.base.specs.Rows.{at}
 use Rattle.base.proofs.SumLaws.{sum_same}

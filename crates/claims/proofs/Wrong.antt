@@ -1,10 +1,6 @@
 -- None of the six wrong forcers meets the promise: at case b, at b and c, or at b and d it answers otherwise.
 -- Assumes nothing.
-use Prim.Native.Nat.{ℕ}
-use native.Mathlib.Omega.{arith}
-use mathlib.Core.Path.{◌≡◌, refl, sym, ap, ◌∙◌}
-use mathlib.Core.Bool.{true}
-use mathlib.Core.List.{List, [], ◌∷◌}
+use Rattle.std.proofs.Common.{ℕ, arith, ◌≡◌, refl, sym, ap, ◌∙◌, true, List, [], ◌∷◌}
 use Rattle.base.specs.Sums.{sum_to, top_to}
 use Rattle.base.specs.Least.{least, first_from}
 use Rattle.base.specs.Rows.{list_from, row}

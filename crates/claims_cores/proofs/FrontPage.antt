@@ -1,11 +1,6 @@
 -- The fourth front page: document 02's Wish 5, each sentence beside its theorem. What is proved here is
 -- proved of every result that the promise `Replied` of fewest_plan and fewest_tasks allows. Assumes nothing.
-use Prim.Native.Nat.{ℕ, suc, ◌≤◌, ◌<◌}
-use mathlib.Core.Path.{◌≡◌, refl}
-use mathlib.Core.Bool.{true}
-use mathlib.Core.Logic.{◌↔◌}
-use mathlib.Core.List.{List, ◌++◌}
-use lib.ListN.{length}
+use Rattle.std.proofs.Common.{ℕ, suc, ◌≤◌, ◌<◌, ◌≡◌, refl, true, ◌↔◌, List, ◌++◌, length}
 use Rattle.base.specs.Least.{NoWorse}
 use Rattle.model.specs.Bound.{bound}
 use Rattle.model.specs.Demands.{Holds}

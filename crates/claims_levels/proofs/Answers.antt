@@ -1,12 +1,7 @@
 -- What a table is answered depends on its system only through the test and the forcing, on its flags and on
 -- n: so by places as levels it is document 01's answer, and under EDF levels change none. The cases are
 -- computed. Assumes nothing.
-use Prim.Native.Nat.{ℕ, suc}
-use mathlib.Core.Path.{◌≡◌, refl, sym, ap, subst, ◌∙◌}
-use mathlib.Core.Bool.{true}
-use mathlib.Core.List.{List}
-use lib.Dec.{T, eqb, ltb}
-use lib.ListN.{length}
+use Rattle.std.proofs.Common.{ℕ, suc, ◌≡◌, refl, sym, ap, subst, ◌∙◌, true, List, T, eqb, ltb, length}
 use Rattle.base.specs.Choice.{pick, or_else}
 use Rattle.base.specs.Sums.{sum_to, top_to}
 use Rattle.base.specs.Least.{least, first_from, first_of}

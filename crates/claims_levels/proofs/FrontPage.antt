@@ -1,13 +1,7 @@
 -- The page on levels: each sentence of document 02's wish 8 beside its theorem. The demands on the front page
 -- of `claims` read "higher" by levels throughout, since `system_of` does. The words: specs/LevelWords, and
 -- specs/Levels of the crate `levels`. Assumes nothing.
-use Prim.Native.Nat.{ℕ, ◌+◌, ◌≤◌, ◌<◌}
-use mathlib.Core.Path.{◌≡◌}
-use mathlib.Core.Bool.{true}
-use mathlib.Core.Logic.{◌↔◌}
-use mathlib.Core.List.{List}
-use lib.Dec.{T}
-use lib.ListN.{length}
+use Rattle.std.proofs.Common.{ℕ, ◌+◌, ◌≤◌, ◌<◌, ◌≡◌, true, ◌↔◌, List, T, length}
 use Rattle.table.specs.declared.Task.{Task}
 use Rattle.table.specs.declared.Table.{Table}
 use Rattle.table.specs.Table.{task_at, level_at, system_of, LegalTask, LegalTable}

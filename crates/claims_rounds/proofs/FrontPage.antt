@@ -2,13 +2,7 @@
 -- theorem. First of the model: `test2 s fs` is the test and `force2 s fs` the forcing of the table s with the
 -- flags fs, and `Slackless s` says that s is a table of edition 1. Then of every result that the promise
 -- `AnsweredIn` of run_plan_in and run_tasks_in allows. Assumes nothing.
-use Prim.Native.Nat.{ℕ, suc, ◌+◌, ◌*◌, ◌-◌, ◌/◌, ◌%◌, ◌≤◌, ◌<◌, min}
-use mathlib.Core.Path.{◌≡◌}
-use mathlib.Core.Bool.{true}
-use mathlib.Core.Logic.{◌↔◌}
-use mathlib.Core.List.{List}
-use lib.Dec.{T}
-use lib.ListN.{length}
+use Rattle.std.proofs.Common.{ℕ, suc, ◌+◌, ◌*◌, ◌-◌, ◌/◌, ◌%◌, ◌≤◌, ◌<◌, min, ◌≡◌, true, ◌↔◌, List, T, length}
 use Rattle.base.specs.Sums.{sum_to}
 use Rattle.base.specs.Least.{NoWorse}
 use Rattle.base.specs.Rows.{at}

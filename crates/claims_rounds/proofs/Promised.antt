@@ -1,12 +1,8 @@
 -- What the entries' promise allows under either edition: one result; under the first the planner's; under the
 -- second what document 02 says, exactly, and what a yes means. Assumes nothing.
-use Prim.Native.Nat.{ℕ, ◌≤◌, ◌<◌}
-use native.Mathlib.Omega.{arith}
-use mathlib.Core.Path.{◌≡◌, refl, sym, ap, subst, fun_ext, ◌∙◌}
-use mathlib.Core.Bool.{true}
-use mathlib.Core.Logic.{◌↔◌}
-use mathlib.Core.List.{List, map}
-use lib.ListN.{length, get_or-map}
+use Rattle.std.proofs.Common.{ℕ, ◌≤◌, ◌<◌, arith, ◌≡◌, refl, sym, ap, subst, ◌∙◌, true, ◌↔◌, List, map, length}
+use Rattle.std.proofs.Math.Path.{fun_ext}
+use Rattle.std.proofs.Math.ListN.{get_or-map}
 use Rattle.base.specs.Rows.{at}
 use Rattle.model.proofs.LowestLaws.{lowest_none_lem}
 use Rattle.schedule.specs.Promise.{Promise}

@@ -3,14 +3,9 @@
 -- flags_of and failing_of (crate flags), of force_rows (crate forcing), of rows_said (crate planner), and
 -- `Answered` of run_plan and run_tasks. `WordFor f n w`: bit i of w is set exactly if f i is 0 (task i + 1
 -- is non-preemptive, or has no bound), for i below n, and no bit at n or above is. Assumes nothing.
-use Prim.Native.Nat.{ℕ, ◌+◌, ◌-◌, ◌^◌}
-use mathlib.Core.Path.{◌≡◌, refl}
-use mathlib.Core.Bool.{Bool}
-use mathlib.Core.Logic.{◌↔◌}
-use mathlib.Core.List.{List}
+use Rattle.std.proofs.Common.{ℕ, ◌+◌, ◌-◌, ◌^◌, ◌≡◌, refl, Bool, ◌↔◌, List, length}
 use lib.Bits.{bit_and, bit_or, bit_xor}
 use lib.Count.{ones, count_trailing_zeros}
-use lib.ListN.{length}
 use Rattle.base.specs.Rows.{at}
 use Rattle.model.specs.Forcing.{lacking, made, lowest}
 use Rattle.model.specs.Demands.{Flags as FlagsOf}

@@ -2,12 +2,7 @@
 -- beside its theorem.
 -- What is proved here is proved of every result that the promises of the writers allow: `WroteAs` of a table,
 -- `ChangedAs` of a plan text as changed; and of the numbers that C and Rust are told. Assumes nothing.
-use Prim.Native.Nat.{ℕ, ◌+◌, ◌*◌, ◌≤◌}
-use mathlib.Core.Path.{◌≡◌}
-use mathlib.Core.Bool.{true}
-use mathlib.Core.Logic.{◌↔◌}
-use mathlib.Core.List.{List}
-use lib.ListN.{length, take, drop}
+use Rattle.std.proofs.Common.{ℕ, ◌+◌, ◌*◌, ◌≤◌, ◌≡◌, true, ◌↔◌, List, length, take, drop}
 use Rattle.base.specs.Rows.{at}
 use Rattle.table.specs.declared.Table.{Table}
 use Rattle.table.specs.declared.Refusal.{Refusal}

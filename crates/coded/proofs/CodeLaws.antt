@@ -1,13 +1,6 @@
 -- The code for C can be read back, for every answer of the planner; the numbers of n tasks are answered as
 -- those tasks are; and a last task that is not whole is refused. Assumes nothing.
-use Prim.Native.Nat.{ℕ, ◌+◌, ◌*◌, ◌/◌, ◌%◌, ◌≤◌, ◌<◌, min}
-use native.Mathlib.Omega.{arith}
-use mathlib.Core.Path.{◌≡◌, refl, sym, ap, ◌∙◌}
-use mathlib.Core.Bool.{Bool, true, false}
-use mathlib.Core.Logic.{⊎_elim}
-use mathlib.Core.List.{List}
-use lib.ListN.{length, replicate}
-use borrow.Author.Tests.{eq-eqb, ne_eqb}
+use Rattle.std.proofs.Common.{ℕ, ◌+◌, ◌*◌, ◌/◌, ◌%◌, ◌≤◌, ◌<◌, min, arith, ◌≡◌, refl, sym, ap, ◌∙◌, Bool, true, false, ⊎_elim, List, length, replicate, eq-eqb, ne_eqb}
 use Rattle.base.specs.Rows.{at}
 use Rattle.base.proofs.RowLaws.{row_is}
 use Rattle.table.specs.declared.Task.{Task}

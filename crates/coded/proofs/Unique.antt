@@ -1,8 +1,6 @@
 -- Any two results that a promise of this crate allows are equal: the answer, and the caller's numbers
 -- afterwards. Assumes nothing.
-use Prim.Native.Nat.{ℕ}
-use mathlib.Core.Path.{◌≡◌, sym, ◌∙◌}
-use mathlib.Core.List.{List}
+use Rattle.std.proofs.Common.{ℕ, ◌≡◌, sym, ◌∙◌, List}
 use Rattle.planner.specs.declared.Done.{Done}
 use Rattle.base.proofs.Unique.{OnlyWith}
 use Rattle.coded.specs.Coded.{Coded}

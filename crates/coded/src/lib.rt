@@ -1,4 +1,6 @@
 // The first two calls for C and Rust: the job is a number, and the answer is one number.
+#![tactic(auto)]
+
 ghost use Rattle.std.specs.Prelude.{◌≡◌, ◌+◌, ◌*◌};
 ghost use Rattle.coded.specs.Coded.{job_of, yes_bit, code_of, PlanCoded, TasksCoded};
 

@@ -3,12 +3,7 @@
 -- ends with fewer cores, nothing is left to be forced with more, and it ends there with no task forced
 -- beyond those; so where it accepts it accepts with every larger number at all.
 -- Assumes nothing.
-use Prim.Native.Nat.{ℕ, zero, suc, ◌≤◌, ◌<◌}
-use native.Mathlib.Omega.{arith}
-use native.Mathlib.Nat.{le_refl, le_trans, eq-or-lt_of_le}
-use mathlib.Core.Path.{◌≡◌}
-use mathlib.Core.Logic.{⊎_elim}
-use mathlib.Core.List.{List}
+use Rattle.std.proofs.Common.{ℕ, zero, suc, ◌≤◌, ◌<◌, arith, le_refl, le_trans, eq-or-lt_of_le, ◌≡◌, ⊎_elim, List}
 use Rattle.base.specs.Least.{NoWorse}
 use Rattle.base.specs.Rows.{at}
 use Rattle.model.specs.Bound.{System, bound}

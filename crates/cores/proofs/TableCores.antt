@@ -1,10 +1,7 @@
 -- More cores, and the fewest, of document 01's tables: what forcing says of a table is the model's, and the
 -- number that is the fewest is so in words: forcing accepts with it, with every larger number, and with none
 -- that is smaller. Assumes nothing.
-use Prim.Native.Nat.{ℕ, zero, suc, ◌≤◌, ◌<◌}
-use native.Mathlib.Omega.{arith}
-use mathlib.Core.Path.{◌≡◌, refl, ◌∙◌, sym}
-use mathlib.Core.Bool.{Bool, true, false}
+use Rattle.std.proofs.Common.{ℕ, zero, suc, ◌≤◌, ◌<◌, arith, ◌≡◌, refl, ◌∙◌, sym, Bool, true, false}
 use Rattle.base.specs.Choice.{or_else}
 use Rattle.base.specs.Least.{NoWorse}
 use Rattle.base.proofs.FirstLaws.{first_is, first_none}

@@ -31,6 +31,8 @@
 //
 // Of a plan at most the first 1,004 bytes count, as for the plan printer, and so many always fit. What is no
 // such input gives nothing on standard output, and a line on standard error.
+#![tactic(auto)]
+
 mod numbers;
 mod rounds;
 mod show;
@@ -41,7 +43,7 @@ use changer::Changed;
 use writer::Written;
 
 // How many bytes were read, and whether a read failed.
-#[derive(Drop)]
+#[derive(Clone, Copy)]
 struct Input {
     count: usize,
     failed: bool,

@@ -5,7 +5,7 @@ ghost use Rattle.std.specs.Prelude.{◌≤◌, length};
 use table::{NO_TASK, Table, Task};
 
 // A number that was read, the place after it, and whether there was one.
-#[derive(Drop)]
+#[derive(Clone, Copy)]
 struct Found {
     value: u32,
     next: usize,
@@ -13,7 +13,7 @@ struct Found {
 }
 
 // A task that was read, the place after it, and whether there was one.
-#[derive(Drop)]
+#[derive(Clone, Copy)]
 struct Typed {
     task: Task,
     next: usize,
@@ -21,7 +21,7 @@ struct Typed {
 }
 
 // A table that was read, and whether the text is one.
-#[derive(Drop)]
+#[derive(Clone, Copy)]
 pub struct Made {
     pub table: Table,
     pub right: bool,

@@ -1,8 +1,6 @@
 -- Any two rows of differences that the promise of `differences_of` allows hold the same ones at each q.
 -- Assumes nothing.
-use Prim.Native.Nat.{ℕ, ◌<◌}
-use mathlib.Core.Path.{◌≡◌}
-use mathlib.Core.List.{List}
+use Rattle.std.proofs.Common.{ℕ, ◌<◌, ◌≡◌, List}
 use Rattle.base.proofs.Unique.{only}
 use Rattle.model.specs.Bound.{Policy}
 use Rattle.risen.specs.Risen.{risen_at}

@@ -1,6 +1,8 @@
 // The differences that can count for task k, in rows: under EDF, with k and i non-preemptive, min(C_i - 1, q)
 // - max(0, D_k - S_i). Task i puts up nothing before q is past wait_i = max(0, D_k - S_i), and no more than
 // most_i = C_i - 1 - wait_i.
+#![tactic(auto)]
+
 ghost use Rattle.std.specs.Prelude.{◌≡◌, ◌+◌, ◌≤◌, ◌<◌, length, replicate};
 ghost use Rattle.base.specs.Rows.{at};
 ghost use Rattle.table.specs.Table.{policy_of};

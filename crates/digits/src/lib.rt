@@ -1,4 +1,6 @@
 // The digits of a plan line, and the bytes and words that they write.
+#![tactic(auto)]
+
 mod values;
 
 ghost use Rattle.std.specs.Prelude.{◌≡◌, ◌+◌, ◌*◌, ◌≤◌, length};

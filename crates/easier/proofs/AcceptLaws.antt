@@ -2,12 +2,7 @@
 -- where it accepted s, and forces a subset. For it ends in the most preemptive flags that leave nothing to be
 -- forced, and those in which it ends on s are such flags on s'.
 -- Assumes nothing.
-use Prim.Native.Nat.{ℕ, ◌-◌}
-use native.Mathlib.Omega.{arith}
-use native.Mathlib.Nat.{eq-zero-or-pos, le_trans, le_of_eq}
-use mathlib.Core.Path.{sym}
-use mathlib.Core.Logic.{⊎_elim}
-use mathlib.Core.List.{List}
+use Rattle.std.proofs.Common.{ℕ, ◌-◌, arith, eq-zero-or-pos, le_trans, le_of_eq, sym, ⊎_elim, List}
 use Rattle.base.specs.Rows.{at}
 use Rattle.base.proofs.SumLaws.{sum_mono}
 use Rattle.model.specs.Bound.{System}

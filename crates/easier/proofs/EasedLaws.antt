@@ -2,14 +2,7 @@
 -- task's own C. The table is reached in five steps, of which each has its law: tasks left out, the other
 -- tasks' T and C, the own C, cores one by one, and slacks.
 -- Assumes nothing.
-use Prim.Native.Nat.{ℕ, zero, suc, ◌-◌, ◌≤◌, ◌<◌}
-use native.Mathlib.Omega.{arith}
-use native.Mathlib.Nat.{eq-or-lt_of_le, le_refl}
-use mathlib.Core.Path.{◌≡◌, refl, sym, ap, subst}
-use mathlib.Core.Logic.{inr, ⊎_elim}
-use mathlib.Core.Bool.{Bool, true, false}
-use lib.Dec.{eqb}
-use borrow.Author.Tests.{eqb-true, eq-eqb, ne_eqb}
+use Rattle.std.proofs.Common.{ℕ, zero, suc, ◌-◌, ◌≤◌, ◌<◌, arith, eq-or-lt_of_le, le_refl, ◌≡◌, refl, sym, ap, subst, inr, ⊎_elim, Bool, true, false, eqb, eqb-true, eq-eqb, ne_eqb}
 use Rattle.base.specs.Choice.{pick}
 use Rattle.base.specs.Least.{NoWorse}
 use Rattle.model.specs.Bound.{System, Legal, under, bound}

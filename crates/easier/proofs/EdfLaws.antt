@@ -2,12 +2,7 @@
 -- one wait the non-preemptive task has the same q and no greater length, each term of its sum is the least
 -- that the table of sums has, and no candidate is above 0 (`no_block`).
 -- Assumes nothing.
-use Prim.Native.Nat.{ℕ, zero, suc, ◌+◌, ◌-◌, ◌≤◌, ◌<◌}
-use native.Mathlib.Omega.{arith}
-use native.Mathlib.Nat.{le_refl}
-use mathlib.Core.Path.{◌≡◌}
-use mathlib.Core.Bool.{Bool}
-use lib.Dec.{eqb}
+use Rattle.std.proofs.Common.{ℕ, zero, suc, ◌+◌, ◌-◌, ◌≤◌, ◌<◌, arith, le_refl, ◌≡◌, Bool, eqb}
 use Rattle.base.proofs.SumLaws.{whole_mono}
 use Rattle.base.specs.Rows.{at}
 use Rattle.model.specs.Bound.{Policy, EDF, System, Legal, W, share, by_flag, from, cap, share_of, B, bound}

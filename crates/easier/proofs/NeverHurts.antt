@@ -1,10 +1,7 @@
 -- What never hurts, whole: an eased table keeps every bound under fixed flags, so forcing keeps its yes, and
 -- forces a subset. The changes one by one are cases of all at once.
 -- Assumes nothing.
-use Prim.Native.Nat.{ℕ, ◌≤◌, ◌<◌}
-use native.Mathlib.Nat.{le_refl, le_trans}
-use mathlib.Core.Path.{refl}
-use mathlib.Core.Logic.{inr}
+use Rattle.std.proofs.Common.{ℕ, ◌≤◌, ◌<◌, le_refl, le_trans, refl, inr}
 use Rattle.base.specs.Rows.{at}
 use Rattle.base.proofs.RowLaws.{list_at}
 use Rattle.model.specs.Bound.{System}

@@ -1,11 +1,7 @@
 -- The promises over tables: a legal table is a legal system without slack, its priorities are those of its
 -- levels, and so each promise of `NeverHurts` is one of tables.
 -- Assumes nothing.
-use Prim.Native.Nat.{ℕ, ◌<◌}
-use native.Mathlib.Omega.{arith}
-use native.Mathlib.Nat.{le_refl}
-use mathlib.Core.Path.{refl, sym, ap, ◌∙◌}
-use mathlib.Core.Logic.{inl, inr, ⊎_elim}
+use Rattle.std.proofs.Common.{ℕ, ◌<◌, arith, le_refl, refl, sym, ap, ◌∙◌, inl, inr, ⊎_elim}
 use Rattle.base.specs.Rows.{at}
 use Rattle.model.specs.Demands.{Flags}
 use Rattle.table.specs.declared.Table.{Table}

@@ -2,11 +2,7 @@
 -- which B is at most x; l is then x quanta past the first length, and q is x + 1. So two bounds are compared
 -- by comparing B at one wait.
 -- Assumes nothing.
-use Prim.Native.Nat.{ℕ, zero, suc, ◌+◌, ◌-◌, ◌≤◌, ◌<◌}
-use native.Mathlib.Omega.{arith}
-use native.Mathlib.Nat.{eq-zero-or-pos}
-use mathlib.Core.Path.{◌≡◌, ap}
-use mathlib.Core.Logic.{⊎_elim}
+use Rattle.std.proofs.Common.{ℕ, zero, suc, ◌+◌, ◌-◌, ◌≤◌, ◌<◌, arith, eq-zero-or-pos, ◌≡◌, ap, ⊎_elim}
 use Rattle.base.proofs.OrderLaws.{le_or_lt}
 use Rattle.model.specs.Bound.{System, by_flag, from, cap, B, bound}
 use Rattle.model.specs.Lengths.{BoundOf}

@@ -1,5 +1,7 @@
 // What edition 2 answers a legal table: its test and its forcing, each with the round count of its last test.
 // Document 02, Wish 4; records and refusals are the planner's.
+#![tactic(auto)]
+
 ghost use Rattle.std.specs.Prelude.{◌≡◌, replicate};
 ghost use Rattle.table.specs.Table.{LegalTable};
 ghost use Rattle.flags.specs.Flags.{flag_in, held};
@@ -14,7 +16,7 @@ use rows::Head;
 use table::{Refusal, Table};
 
 // An answer with the round count of the last test; 0 where there was none, and in every refusal.
-#[derive(Drop)]
+#[derive(Clone, Copy)]
 pub struct Rounded {
     pub done: Done,
     pub rounds: u32,
@@ -22,7 +24,7 @@ pub struct Rounded {
 
 // The same where its records are not listed yet: they have the flags that are said, and the bounds in a row
 // beside it.
-#[derive(Drop)]
+#[derive(Clone, Copy)]
 pub struct RoundsSaid {
     pub said: Said,
     pub rounds: u32,

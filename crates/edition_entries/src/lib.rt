@@ -1,6 +1,8 @@
 // The entries over lent lists with the edition beside the job: the records go to the caller's list as under
 // the first edition, and the round count comes with the answer. The work is done by value in `editions`; what
 // is here passes the list on to `entries`.
+#![tactic(auto)]
+
 ghost use Rattle.std.specs.Prelude.{◌≡◌, ◌≤◌, length};
 ghost use Rattle.planner.specs.Calls.{plan, tasks as list};
 ghost use Rattle.editions.specs.Editions.{AllowsIn, AnsweredIn};
@@ -11,7 +13,7 @@ use planner::{Answer, Done, Job, Record};
 use table::Task;
 
 // An answer, and the round count of its last test.
-#[derive(Drop)]
+#[derive(Clone, Copy)]
 pub struct Reply {
     pub answer: Answer,
     pub rounds: u32,

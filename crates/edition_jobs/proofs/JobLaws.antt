@@ -1,10 +1,6 @@
 -- What is told of an answer with its rounds, and from the answer in parts to the promises.
 -- Assumes nothing.
-use Prim.Native.Nat.{ℕ, ◌≤◌}
-use native.Mathlib.Omega.{arith}
-use mathlib.Core.Path.{◌≡◌, refl, ap, ap₂, ◌∙◌}
-use mathlib.Core.List.{List}
-use lib.ListN.{get_or, set}
+use Rattle.std.proofs.Common.{ℕ, ◌≤◌, arith, ◌≡◌, refl, ap, ap₂, ◌∙◌, List, get_or, set}
 use Rattle.planner.specs.declared.Answer.{Answer}
 use Rattle.planner.proofs.CountLaws.{Small}
 use Rattle.edition_2.specs.declared.Rounded.{Rounded}

@@ -1,5 +1,7 @@
 // Either job under either edition, on a plan text and on a flat table: what is answered goes into a lent list
 // of numbers, in the order of the crate told and with the round count beside, and the records into another.
+#![tactic(auto)]
+
 ghost use Rattle.std.specs.Prelude.{◌≤◌};
 ghost use Rattle.edition_jobs.specs.Jobs.{HeardIn, PlanToldIn, TasksToldIn};
 

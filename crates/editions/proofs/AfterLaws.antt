@@ -1,12 +1,6 @@
 -- The caller's list after an answer of edition 2: a refusal leaves it, what is past the last task stays, and
 -- each task's record is what document 02 says. Assumes nothing.
-use Prim.Native.Nat.{ℕ, ◌≤◌, ◌<◌}
-use native.Mathlib.Omega.{arith}
-use mathlib.Core.Path.{◌≡◌, refl, sym, ap, ◌∙◌}
-use mathlib.Core.Bool.{true}
-use mathlib.Core.List.{List}
-use mathlib.Core.Logic.{⊎_elim}
-use lib.ListN.{length}
+use Rattle.std.proofs.Common.{ℕ, ◌≤◌, ◌<◌, arith, ◌≡◌, refl, sym, ap, ◌∙◌, true, List, ⊎_elim, length}
 use Rattle.base.specs.Rows.{at}
 use Rattle.table.specs.declared.Table.{Table}
 use Rattle.planner.specs.declared.Answer.{Answer}

@@ -1,8 +1,6 @@
 -- The stages of edition 2 and the choice of the edition: each return of the code is a case of its definition.
 -- Under the first edition the definitions are the planner's, without rounds. Assumes nothing.
-use Prim.Native.Nat.{ℕ, ◌≤◌, ◌<◌}
-use mathlib.Core.Path.{◌≡◌, refl, ap}
-use mathlib.Core.List.{List}
+use Rattle.std.proofs.Common.{ℕ, ◌≤◌, ◌<◌, ◌≡◌, refl, ap, List}
 use Rattle.table.specs.Checks.{refusal, check_of}
 use Rattle.table.specs.declared.Task.{Task}
 use Rattle.table.specs.declared.Refusal.{Refusal}

@@ -1,9 +1,7 @@
 -- Any two results that the promise of a public function of this crate allows are equal; and so are any two
 -- that `AnsweredIn` allows.
 -- Assumes nothing.
-use Prim.Native.Nat.{ℕ}
-use mathlib.Core.Path.{◌≡◌}
-use mathlib.Core.List.{List}
+use Rattle.std.proofs.Common.{ℕ, ◌≡◌, List}
 use Rattle.base.proofs.Unique.{only, Only}
 use Rattle.planner.specs.declared.Answer.{Answer}
 use Rattle.planner.specs.declared.Record.{Record}

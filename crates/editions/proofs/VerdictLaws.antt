@@ -1,10 +1,6 @@
 -- A legal table is answered under edition 2 as document 02 says, and only so: each verdict, with its round
 -- count, is the definition's if and only if its condition holds. Assumes nothing.
-use Prim.Native.Nat.{ℕ, zero, suc, ◌<◌}
-use native.Mathlib.Omega.{arith}
-use mathlib.Core.Path.{◌≡◌, refl, sym, subst}
-use lib.Dec.{eqb}
-use borrow.Author.Tests.{eq-eqb, ne_eqb}
+use Rattle.std.proofs.Common.{ℕ, zero, suc, ◌<◌, arith, ◌≡◌, refl, sym, subst, eqb, eq-eqb, ne_eqb}
 use Rattle.base.specs.Choice.{or_else}
 use Rattle.base.specs.Rows.{at}
 use Rattle.model.proofs.LowestLaws.{Lowest, lowest_none_lem, lowest_some, none_lowest, some_lowest}

@@ -1,6 +1,8 @@
 // The planner under either edition, by value, in stages: a plan is read, or a table is checked; there is room
 // for its records; and the legal table is answered, with the round count of its last test. Under the first
 // edition all of it is the planner's, and there are no rounds.
+#![tactic(auto)]
+
 ghost use Rattle.std.specs.Prelude.{◌≡◌};
 ghost use Rattle.table.specs.Table.{LegalTable};
 ghost use Rattle.editions.specs.Editions.{room_second, plan_second, list_second, legal_in, plan_in, list_in};
@@ -10,7 +12,7 @@ use planner::Job;
 use table::{Checked, Refusal, Table, Task};
 
 // Which edition of the test is asked for.
-#[derive(Drop)]
+#[derive(Clone, Copy)]
 pub enum Edition {
     First,
     Second,

@@ -1,6 +1,6 @@
 -- What `load_tasks` asks of the functions that it calls: tasks in the machine, and what each call needs.
 -- Assumes nothing.
-use Prim.Native.Nat.{min}
+use Rattle.std.proofs.Common.{min}
 use Rattle.entries.proofs.Kit.{◌≡◌, refl, ℕ, ◌<◌, ◌^◌, arith, [], ◌∷◌, List, length, replicate, Holds}
 use Rattle.entries.proofs.Kit.{Ura, w64, ty_array, Val, WT, has_ty, vint, SProp, ent, emp, Memory}
 use Rattle.entries.proofs.Kit.{Routine, sem, Fun, ‵, ◌$◌, ◌∵◌, !, qed, move, join}

@@ -2,10 +2,7 @@
 -- over calls; and of `write_tasks`, answer and buffer; of `put_done` and `load_tasks` too. The `-says` lines
 -- hold the promise that callers have to the one that the theorem is about.
 -- Assumes nothing.
-use Prim.Native.Nat.{ℕ}
-use mathlib.Core.Path.{◌≡◌, refl}
-use mathlib.Core.List.{List}
-use lib.ListN.{length}
+use Rattle.std.proofs.Common.{ℕ, ◌≡◌, refl, List, length}
 use seplogic.Ra.Ura.{Ura}
 use base.Logic.{SProp}
 use prog.Memory.{Memory}

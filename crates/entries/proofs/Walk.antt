@@ -1,15 +1,10 @@
 -- What the walks share: how a caller learns from a callee's promise, a local's cell, a list that is filled.
 -- Assumes nothing.
-use mathlib.Core.Path.{◌≡◌, sym, ◌∙◌, ap}
-use mathlib.Core.List.{List, [], ◌∷◌, ◌++◌}
+use Rattle.std.proofs.Common.{◌≡◌, sym, ◌∙◌, ap, List, [], ◌∷◌, ◌++◌, ℕ, suc, ◌+◌, ◌-◌, ◌≤◌, ◌<◌, le_of_lt, add-one, length, take, drop, set, get_or, length-take-le, drop-cons, take-suc}
 use mathlib.Core.WellFounded.InvImage
 use mathlib.Core.WellFounded.{WellFounded}
-use Prim.Native.Nat.{ℕ, suc, ◌+◌, ◌-◌, ◌≤◌, ◌<◌}
-use native.Mathlib.Nat.{le_of_lt}
-use native.Mathlib.Numerals.{add-one}
-use lib.ListN.{length, take, drop, set, get_or}
 use lib.WfN.{lt-wf_rel}
-use lib.Seq.{length-take-le, set_at, drop-cons, take-suc, append_snoc}
+use Rattle.std.proofs.Math.Seq.{set_at, append_snoc}
 use seplogic.Ra.Ura.{Ura}
 use mir.Syntax.{place, copy}
 use mir.Val.{Val}

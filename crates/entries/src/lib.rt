@@ -1,6 +1,8 @@
 // The planner's entries over lent lists: a plan, or a list of tasks, is tested or forced, and the records go
 // to the caller's list; a list of tasks is written as a plan. None asks anything of its caller. The work is
 // done by value in `planner` and `writer`; what is here moves records and tasks.
+#![tactic(auto)]
+
 ghost use Rattle.std.specs.Prelude.{◌≡◌, ◌≤◌, ◌<◌, min, length, set, replicate};
 ghost use Rattle.table.specs.Table.{no_task};
 ghost use Rattle.planner.specs.Answers.{record_at};

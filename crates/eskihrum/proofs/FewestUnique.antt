@@ -1,6 +1,6 @@
 -- Two results which a promise of `counting` allows are equal: the yes, and both of the caller's lists
 -- afterwards. The statements are over the promises as a caller reads them. Assumes nothing.
-use mathlib.Core.Path.{◌≡◌}
+use Rattle.std.proofs.Common.{◌≡◌}
 use borrow.Fn.Kinds.{Dens, res_t, ended_of}
 use contract.Lifetimes.{Lfts}
 use denote.Triple.Clauses.{AtExit}

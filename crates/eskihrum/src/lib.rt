@@ -4,6 +4,8 @@
 // `second` those of the second edition, `counting` those that give the fewest cores, `writing` those that
 // write a plan, and `levels` those whose tasks have five numbers, the level last; in all others they have
 // four, and a task's place is its level.
+#![tactic(auto)]
+
 mod asking;
 mod counting;
 mod levels;

@@ -1,12 +1,6 @@
 -- How many records are written: those of the forcing whose answer is given, and the list has room for them.
 -- Assumes nothing.
-use Prim.Native.Nat.{ℕ, zero, suc, ◌≤◌}
-use native.Mathlib.Omega.{arith}
-use mathlib.Core.Path.{◌≡◌, refl}
-use mathlib.Core.Bool.{Bool, true, false}
-use mathlib.Core.List.{List}
-use lib.Dec.{ltb}
-use borrow.Author.Tests.{ltb-false}
+use Rattle.std.proofs.Common.{ℕ, zero, suc, ◌≤◌, arith, ◌≡◌, refl, Bool, true, false, List, ltb, ltb-false}
 use Rattle.base.specs.Choice.{pick, or_else}
 use Rattle.table.specs.Checks.{refusal, check_of}
 use Rattle.table.specs.declared.Task.{Task}

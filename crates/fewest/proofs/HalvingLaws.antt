@@ -1,10 +1,7 @@
 -- The halving that looks for the fewest cores. What it knows: with `low` cores forcing refuses, or there are
 -- none, and with `high` it accepts. That more cores never hurt makes the number between them the fewest.
 -- Assumes nothing.
-use Prim.Native.Nat.{ℕ, suc, ◌+◌, ◌≤◌, ◌<◌}
-use native.Mathlib.Omega.{arith}
-use mathlib.Core.Path.{◌≡◌, sym, ap, subst, ◌∙◌}
-use mathlib.Core.Bool.{Bool, true, false}
+use Rattle.std.proofs.Common.{ℕ, suc, ◌+◌, ◌≤◌, ◌<◌, arith, ◌≡◌, sym, ap, subst, ◌∙◌, Bool, true, false}
 use Rattle.table.specs.declared.Table.{Table}
 use Rattle.table.specs.Table.{LegalTable}
 use Rattle.planner.specs.declared.Done.{Done}

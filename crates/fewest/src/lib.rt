@@ -1,5 +1,7 @@
 // The fewest cores with which forcing accepts, by value: document 02, Wish 5. The number is found by halving,
 // in at most five forcings: with 16 cores, and then four times in the middle of what is left.
+#![tactic(auto)]
+
 ghost use Rattle.std.specs.Prelude.{◌≡◌, ◌≤◌};
 ghost use Rattle.table.specs.Table.{LegalTable};
 ghost use Rattle.planner.specs.Done.{force_done};
@@ -10,7 +12,7 @@ use planner::{Answer, Done, Job};
 use table::{Checked, Refusal, Table, Task};
 
 // What forcing gives with the fewest cores, and their number; a refusal has 0 for it.
-#[derive(Drop)]
+#[derive(Clone, Copy)]
 pub struct Fewest {
     pub done: Done,
     pub cores: u32,

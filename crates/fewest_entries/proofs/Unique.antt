@@ -1,8 +1,7 @@
 -- Any two results that the promise of `fewest_plan` or `fewest_tasks` allows are equal, reply and later list:
 -- once over calls. The `-says` lines hold the promise that callers have to the one that the theorem is about.
 -- Assumes nothing.
-use mathlib.Core.Path.{◌≡◌, refl}
-use mathlib.Core.List.{List}
+use Rattle.std.proofs.Common.{◌≡◌, refl, List}
 use seplogic.Ra.Ura.{Ura}
 use base.Logic.{SProp}
 use prog.Memory.{Memory}

@@ -1,5 +1,7 @@
 // The fewest cores over lent lists: of a plan, or of a list of tasks, with the records of that forcing in the
 // caller's list. Neither asks anything of its caller. The work is done by value in `fewest`.
+#![tactic(auto)]
+
 ghost use Rattle.std.specs.Prelude.{◌≡◌};
 ghost use Rattle.fewest_entries.specs.Calls.{reply_of, Replied};
 ghost use Rattle.planner.specs.Calls.{plan, tasks as list};
@@ -9,7 +11,7 @@ use planner::{Answer, Done, Record};
 use table::Task;
 
 // An answer, and with how many cores it was found; 0 cores in a refusal.
-#[derive(Drop)]
+#[derive(Clone, Copy)]
 pub struct Reply {
     pub answer: Answer,
     pub cores: u32,

@@ -1,9 +1,5 @@
 -- What is told of what was found, and from what was found by value to the promises. Assumes nothing.
-use Prim.Native.Nat.{ℕ, ◌/◌}
-use mathlib.Core.Path.{◌≡◌, refl, ap, ◌∙◌}
-use mathlib.Core.Bool.{Bool}
-use mathlib.Core.List.{List}
-use lib.ListN.{length, get_or, set}
+use Rattle.std.proofs.Common.{ℕ, ◌/◌, ◌≡◌, refl, ap, ◌∙◌, Bool, List, length, get_or, set}
 use Rattle.table.specs.declared.Task.{Task}
 use Rattle.planner.proofs.CountLaws.{Small}
 use Rattle.words.specs.Word.{word_of_done}

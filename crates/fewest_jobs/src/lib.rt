@@ -1,6 +1,8 @@
 // The fewest cores for C and Rust: of a plan text and of a flat table. What is answered goes into a lent list
 // of numbers, in the order of the crate told, with the number of cores in place 7, and the records into
 // another.
+#![tactic(auto)]
+
 ghost use Rattle.std.specs.Prelude.{length};
 ghost use Rattle.flat.specs.Flat.{Fits};
 ghost use Rattle.fewest_jobs.specs.FewestTold.{FewestTold, PlanFewestTold, TasksFewestTold};

@@ -6,12 +6,7 @@
 --   below the line with M it is the listing of the plan with M in its head   listing_with_cores
 --
 -- Assumes nothing.
-use Prim.Native.Nat.{ℕ, suc}
-use native.Mathlib.Omega.{arith}
-use mathlib.Core.Path.{◌≡◌, refl, sym, ap, ◌∙◌}
-use mathlib.Core.Bool.{true}
-use mathlib.Core.List.{List, ◌++◌}
-use lib.ListN.{take}
+use Rattle.std.proofs.Common.{ℕ, suc, arith, ◌≡◌, refl, sym, ap, ◌∙◌, true, List, ◌++◌, take}
 use Rattle.base.proofs.Unique.{OnlyWith}
 use Rattle.base.proofs.FirstLaws.{First, is_first}
 use Rattle.table.specs.declared.Table.{Table}

@@ -1,5 +1,7 @@
 // The listing with the fewest cores: their number, and then the listing that forcing with so many gives. It
 // goes into a buffer that the caller lends. Document 02, Wish 5.
+#![tactic(auto)]
+
 ghost use Rattle.std.specs.Prelude.{◌≤◌, length};
 ghost use Rattle.buffer.specs.Put.{Put};
 ghost use Rattle.fewest_listing.specs.FewestListing.{fewest_line, text_of, Ready, FewestListed};

@@ -2,14 +2,10 @@
 -- xor and not, of a sum of bits; equal bits make equal numbers; the count of ones is the sum of the bits, and
 -- trailing zeros end at the lowest bit that is set.
 -- Assumes nothing.
-use Prim.Native.Nat.{ℕ, zero, suc, ◌+◌, ◌-◌, ◌*◌, ◌/◌, ◌%◌, ◌^◌, ◌≤◌, ◌<◌, min, max}
-use native.Mathlib.Omega.{arith}
-use native.Mathlib.Nat.{pow-suc, pow-succ', div-one, div-div-eq-div-mul, div-eq_of_lt, mod-lt, add_comm}
-use native.Mathlib.Nat.{add-mul-div_right, eq-or-lt_of_le, lt_of_lt_of_le}
-use mathlib.Core.Path.{◌≡◌, refl, sym, ap, ap₂, ◌∙◌}
-use mathlib.Core.Logic.{⊎_elim}
-use lib.Arith.{lt-one, digits_mod}
-use lib.Pow.{pow_pos, pow_mono}
+use Rattle.std.proofs.Common.{ℕ, zero, suc, ◌+◌, ◌-◌, ◌*◌, ◌/◌, ◌%◌, ◌^◌, ◌≤◌, ◌<◌, min, max, arith, pow-suc, div-one, mod-lt, add_comm, eq-or-lt_of_le, lt_of_lt_of_le, ◌≡◌, refl, sym, ap, ap₂, ◌∙◌, ⊎_elim, pow_pos, pow_mono}
+use Rattle.std.proofs.Math.Nat.{pow-succ', div-div-eq-div-mul, div-eq_of_lt}
+use Rattle.std.proofs.Math.Nat.{add-mul-div_right}
+use Rattle.std.proofs.Math.Arith.{lt-one, digits_mod}
 use lib.Bits.{bit_and, bit_or, bit_xor, differ, and_step, or_step, xor_step, and_shr, or_shr, xor_shr}
 use lib.Bits.{block_half, block_odd}
 use lib.Count.{ones, ones_step, count_trailing_zeros, under}

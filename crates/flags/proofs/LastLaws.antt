@@ -1,13 +1,7 @@
 -- The last place where a number is not 0: which it is, and what it says of the sum.
 -- Assumes nothing.
-use Prim.Native.Nat.{ℕ, zero, suc, ◌+◌, ◌≤◌, ◌<◌}
-use native.Mathlib.Omega.{arith}
-use native.Mathlib.Nat.{eq-or-lt_of_le}
-use mathlib.Core.Path.{◌≡◌, refl, sym, ap, ap₂, ◌∙◌}
-use mathlib.Core.Bool.{Bool, true, false}
-use mathlib.Core.Logic.{⊎_elim}
-use lib.Dec.{eqb}
-use borrow.Author.Tests.{eqb-true, eqb-false}
+use Rattle.std.proofs.Common.{ℕ, zero, suc, ◌+◌, ◌≤◌, ◌<◌, arith, eq-or-lt_of_le, ◌≡◌, refl, sym, ap, ap₂, ◌∙◌, Bool, true, false, ⊎_elim, eqb, eqb-true}
+use borrow.Author.Tests.{eqb-false}
 use Rattle.base.specs.Choice.{pick}
 use Rattle.base.specs.Sums.{sum_to}
 use Rattle.base.proofs.OrderLaws.{le_or_lt}

@@ -2,14 +2,7 @@
 -- on words are forcing's own: a pass makes `flags | failing`, it is the last exactly if `failing & !flags`
 -- is 0, the ones of xor are the changed tasks, and the trailing zeros lead to the lowest failing one.
 -- Assumes nothing.
-use Prim.Native.Nat.{ℕ, zero, suc, ◌+◌, ◌-◌, ◌^◌, ◌≤◌, ◌<◌}
-use native.Mathlib.Omega.{arith}
-use native.Mathlib.Nat.{lt_of_lt_of_le, pow-suc}
-use mathlib.Core.Path.{◌≡◌, refl, sym, ap, ap₂, ◌∙◌}
-use mathlib.Core.List.{List}
-use mathlib.Core.Logic.{⊎_elim, ◌↔◌}
-use lib.Dec.{eqb}
-use lib.Pow.{pow_mono}
+use Rattle.std.proofs.Common.{ℕ, zero, suc, ◌+◌, ◌-◌, ◌^◌, ◌≤◌, ◌<◌, arith, lt_of_lt_of_le, pow-suc, ◌≡◌, refl, sym, ap, ap₂, ◌∙◌, List, ⊎_elim, ◌↔◌, eqb, pow_mono}
 use lib.Bits.{bit_and, bit_or, bit_xor, and_lt}
 use lib.Count.{ones, count_trailing_zeros}
 use Rattle.base.specs.Sums.{sum_to}

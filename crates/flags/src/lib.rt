@@ -1,6 +1,8 @@
 // The flags of a table in one word: bit i is 1 where task i + 1 is non-preemptive, and 0 from bit n up. The
 // failing tasks of a test are held in the same way: a 1 where a task has no bound. Both are read by place: 0
 // where the bit is 1, and 1 where it is 0.
+#![tactic(auto)]
+
 ghost use Rattle.std.specs.Prelude.{◌≡◌, ◌-◌, ◌≤◌, ◌<◌, min, eqb};
 ghost use Rattle.base.specs.Choice.{pick};
 ghost use Rattle.base.specs.Sums.{sum_to};
@@ -13,7 +15,7 @@ ghost use Rattle.flags.specs.Flags.{flag_in, held, changed, last_to};
 
 use table::Table;
 
-#[derive(Drop)]
+#[derive(Clone, Copy)]
 pub struct Flags {
     word: u32,
 }

@@ -1,6 +1,6 @@
 -- Any two results that the promise of a public function of this crate allows are equal.
 -- Assumes nothing.
-use mathlib.Core.Path.{refl}
+use Rattle.std.proofs.Common.{refl}
 use Rattle.base.proofs.Unique.{only, OnlyWith}
 use Rattle.flat.proofs.put_records.Kinds as put-records
 use Rattle.flat.proofs.put_records.Reads as put-records-reads

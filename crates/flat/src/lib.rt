@@ -1,4 +1,6 @@
 // The planner's records as C and Rust have them: three numbers to a record.
+#![tactic(auto)]
+
 ghost use Rattle.std.specs.Prelude.{◌≡◌, ◌+◌, ◌*◌, ◌≤◌, ◌<◌, length};
 ghost use Rattle.buffer.specs.Put.{Put};
 ghost use Rattle.flat.specs.Flat.{record_numbers, flat_after, Fits};

@@ -1,14 +1,8 @@
 -- What a caller's numbers are read as: the numbers of a list of tasks as that list, four to a task only where
 -- its levels are its places; four to a task always with the places as levels; and a last task that is not
 -- whole makes no legal table. Assumes nothing.
-use Prim.Native.Nat.{ℕ, zero, suc, ◌+◌, ◌*◌, ◌/◌, ◌%◌, ◌<◌}
-use native.Mathlib.Omega.{arith}
-use mathlib.Core.Path.{◌≡◌, refl, ap, ◌∙◌}
-use mathlib.Core.Bool.{Bool, true, false}
-use mathlib.Core.List.{List, [], ◌∷◌, ◌++◌}
-use lib.ListN.{length, get_or-eq_default}
-use lib.Seq.{get_or-append-add}
-use borrow.Author.Tests.{eq-eqb, ne_eqb}
+use Rattle.std.proofs.Common.{ℕ, zero, suc, ◌+◌, ◌*◌, ◌/◌, ◌%◌, ◌<◌, arith, ◌≡◌, refl, ap, ◌∙◌, Bool, true, false, List, [], ◌∷◌, ◌++◌, length, get_or-append-add, eq-eqb, ne_eqb, ⊎_elim}
+use Rattle.std.proofs.Math.ListN.{get_or-eq_default}
 use Rattle.base.specs.Rows.{at}
 use Rattle.base.proofs.RowLaws.{row_at}
 use Rattle.table.specs.declared.Task.{Task}
@@ -17,7 +11,6 @@ use Rattle.table.specs.declared.Table.{Table}
 use Rattle.table.specs.Faults.{Within, HeadWrong, cores, policy, count, TaskWrong, flag, period, deadline}
 use Rattle.table.specs.Faults.{cost, level, TableWrong, in_head, in_task}
 use Rattle.table.proofs.TableLaws.{table_cases}
-use mathlib.Core.Logic.{⊎_elim}
 use Rattle.flat_tasks.specs.FlatTasks.{count_by, count_in, five_in, task_in, shown_in, tasks_in}
 use Rattle.flat_tasks.specs.FlatTasks.{table_in, wide, Placed, task_numbers, flat_tasks}
 

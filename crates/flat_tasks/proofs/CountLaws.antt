@@ -1,7 +1,5 @@
 -- How many tasks so many numbers are, by whether the last is whole. Assumes nothing.
-use Prim.Native.Nat.{ℕ, ◌+◌, ◌/◌, ◌%◌}
-use mathlib.Core.Path.{◌≡◌}
-use borrow.Author.Tests.{eq-eqb, ne_eqb}
+use Rattle.std.proofs.Common.{ℕ, ◌+◌, ◌/◌, ◌%◌, ◌≡◌, eq-eqb, ne_eqb}
 use Rattle.flat_tasks.specs.FlatTasks.{count_by}
 
 pub count_whole : (w x : ℕ) → x % w ≡ 0 → x / w ≡ count_by w x

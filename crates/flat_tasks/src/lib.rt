@@ -1,5 +1,7 @@
 // A table of tasks as C and Rust have it: four numbers to a task, with its place as level, or five, with the
 // level last.
+#![tactic(auto)]
+
 ghost use Rattle.std.specs.Prelude.{◌≡◌, ◌<◌};
 ghost use Rattle.base.specs.Rows.{at};
 ghost use Rattle.flat_tasks.specs.FlatTasks.{count_by, count_in, four_in, five_in, task_in, shown_in};

@@ -1,9 +1,7 @@
 -- The greatest level among the tasks that lack a bound: the loop that finds it, and that none of them is
 -- deeper.
 -- Assumes nothing.
-use Prim.Native.Nat.{ℕ, zero, suc, ◌+◌, ◌≤◌, ◌<◌, max}
-use native.Mathlib.Omega.{arith}
-use mathlib.Core.Path.{◌≡◌, refl, ap, ◌∙◌}
+use Rattle.std.proofs.Common.{ℕ, zero, suc, ◌+◌, ◌≤◌, ◌<◌, max, arith, ◌≡◌, refl, ap, ◌∙◌}
 use Rattle.base.proofs.OrderLaws.{below_next}
 use Rattle.model.specs.Forcing.{lacks}
 use Rattle.forcing.specs.Forced.{deepen, deepest, below_of}

@@ -2,14 +2,7 @@
 -- list that is held, so that it ends where forcing does. Of each preemptive task it knows a q below which
 -- none is enough; under FP, of those that see no change, the bound itself.
 -- Assumes nothing.
-use Prim.Native.Nat.{ℕ, zero, suc, ◌+◌, ◌-◌, ◌≤◌, ◌<◌}
-use native.Mathlib.Omega.{arith}
-use native.Mathlib.Nat.{le_refl}
-use mathlib.Core.Path.{◌≡◌, refl, sym, ap, ap₂, ◌∙◌}
-use mathlib.Core.Bool.{true}
-use mathlib.Core.List.{List}
-use mathlib.Core.Logic.{◌⊎◌, inl, inr, ⊎_elim}
-use lib.Dec.{eqb}
+use Rattle.std.proofs.Common.{ℕ, zero, suc, ◌+◌, ◌-◌, ◌≤◌, ◌<◌, arith, le_refl, ◌≡◌, refl, sym, ap, ap₂, ◌∙◌, true, List, ◌⊎◌, inl, inr, ⊎_elim, eqb}
 use Rattle.base.specs.Sums.{sum_to}
 use Rattle.base.specs.Least.{first_of}
 use Rattle.base.specs.Rows.{at}

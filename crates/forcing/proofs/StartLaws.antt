@@ -1,12 +1,7 @@
 -- What the loop of passes knows before each pass, and that it knows it at the start.
 -- Assumes nothing.
-use Prim.Native.Nat.{ℕ, ◌≤◌, ◌<◌}
-use native.Mathlib.Omega.{arith}
-use mathlib.Core.Path.{◌≡◌, sym, ap, ◌∙◌, subst}
-use mathlib.Core.Bool.{true}
-use mathlib.Core.List.{List}
-use lib.ListN.{length, replicate, length-replicate, get_or-replicate}
-use borrow.Author.Tests.{le-leb}
+use Rattle.std.proofs.Common.{ℕ, ◌≤◌, ◌<◌, arith, ◌≡◌, sym, ap, ◌∙◌, subst, true, List, length, replicate, le-leb}
+use Rattle.std.proofs.Math.ListN.{length-replicate, get_or-replicate}
 use Rattle.base.specs.Rows.{at}
 use Rattle.base.proofs.RowLaws.{list_at}
 use Rattle.model.specs.Bound.{System, bound}

@@ -1,9 +1,6 @@
 -- Forcing of the rows and flags of a legal table is forcing of the table.
 -- Assumes nothing.
-use Prim.Native.Nat.{ℕ, ◌<◌}
-use native.Mathlib.Omega.{arith}
-use mathlib.Core.Path.{◌≡◌, sym, ap, ◌∙◌}
-use mathlib.Core.List.{List}
+use Rattle.std.proofs.Common.{ℕ, ◌<◌, arith, ◌≡◌, sym, ap, ◌∙◌, List}
 use Rattle.base.specs.Rows.{at, list_of}
 use Rattle.base.proofs.RowLaws.{list_same}
 use Rattle.model.specs.Forcing.{force}

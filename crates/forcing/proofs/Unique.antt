@@ -1,9 +1,7 @@
 -- Any two results that the promise of `force_rows` allows are equal; where no task fails, so are the bounds
 -- of the tasks.
 -- Assumes nothing.
-use Prim.Native.Nat.{ℕ, ◌<◌}
-use mathlib.Core.Path.{◌≡◌, refl}
-use mathlib.Core.List.{List}
+use Rattle.std.proofs.Common.{ℕ, ◌<◌, ◌≡◌, refl, List}
 use Rattle.base.specs.Rows.{at}
 use Rattle.base.proofs.Unique.{only}
 use Rattle.model.specs.Bound.{System}

@@ -1,4 +1,6 @@
 // Forcing, over the rows of a table.
+#![tactic(auto)]
+
 ghost use Rattle.std.specs.Prelude.{◌≡◌, replicate, ◌≤◌};
 ghost use Rattle.model.specs.Forcing.{lacks};
 ghost use Rattle.flags.specs.Flags.{flag_in, held};
@@ -11,7 +13,7 @@ use rows::Head;
 
 // Where forcing ends: the final flags, how many tests there were, and the number of the lowest task without
 // a bound in the last of them, 0 for none.
-#[derive(Drop)]
+#[derive(Clone, Copy)]
 pub struct Forced {
     pub flags: Flags,
     pub passes: u32,

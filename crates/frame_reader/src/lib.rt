@@ -1,4 +1,6 @@
 // The checks of a frame: refusals 1 to 4. The digit table is lent by the caller.
+#![tactic(auto)]
+
 ghost use Rattle.std.specs.Prelude.{◌≡◌, ◌*◌, ◌≤◌, ◌<◌, length, leb};
 ghost use Rattle.frames.specs.Digits.{digit_of, digit_table, Digits, all_digits};
 ghost use Rattle.frames.specs.Frames.{frame_sum, frame_fault};

@@ -1,9 +1,6 @@
 -- Any two results that the promise of a public function of this crate allows are equal: the line's length, or
 -- the next place, and the bytes of what was lent. Assumes nothing.
-use Prim.Native.Nat.{ℕ}
-use mathlib.Core.Path.{◌≡◌}
-use mathlib.Core.List.{List, [], ◌∷◌}
-use lib.ListN.{take}
+use Rattle.std.proofs.Common.{ℕ, ◌≡◌, List, [], ◌∷◌, take}
 use Rattle.buffer.specs.Put.{Put}
 use Rattle.buffer.proofs.PutLaws.{put_only}
 use Rattle.frames.specs.Text.{bytes_text, line_text}

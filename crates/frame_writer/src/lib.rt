@@ -1,4 +1,6 @@
 // Writing a frame as the line of its digits: two to a byte, upper case, then the check byte and one byte 0A.
+#![tactic(auto)]
+
 ghost use Rattle.std.specs.Prelude.{◌≡◌, [], ◌∷◌, ◌+◌, ◌*◌, ◌<◌, ◌≤◌, length, take};
 ghost use Rattle.buffer.specs.Put.{Put};
 ghost use Rattle.frames.specs.Digits.{digit_text};

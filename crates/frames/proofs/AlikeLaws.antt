@@ -2,15 +2,8 @@
 -- place. What frames say of them is the same. A text is alike to its raised text, and in its first n bytes to
 -- these bytes alone.
 -- Assumes nothing.
-use Prim.Native.Nat.{ℕ, ◌+◌, ◌*◌, ◌-◌, ◌≤◌, ◌<◌}
-use native.Mathlib.Omega.{arith}
-use mathlib.Core.Path.{◌≡◌, sym, ap, ◌∙◌}
-use mathlib.Core.Logic.{⊎_elim}
-use mathlib.Core.List.{List}
-use lib.ListN.{length, get_or, take, drop, length-take, length-drop}
-use lib.Seq.{get_or-take, get_or-drop}
-use lib.Dec.{leb, eqb}
-use borrow.Author.Tests.{le-leb, lt-leb}
+use Rattle.std.proofs.Common.{ℕ, ◌+◌, ◌*◌, ◌-◌, ◌≤◌, ◌<◌, arith, ◌≡◌, sym, ap, ◌∙◌, ⊎_elim, List, length, get_or, take, drop, length-take, length-drop, get_or-take, get_or-drop, leb, eqb, le-leb}
+use borrow.Author.Tests.{lt-leb}
 use Rattle.base.proofs.SumLaws.{sum_same}
 use Rattle.base.proofs.OrderLaws.{le_or_lt}
 use Rattle.base.proofs.FirstLaws.{first_same}

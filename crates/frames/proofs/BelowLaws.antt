@@ -1,9 +1,6 @@
 -- One test, computed at every number below n, holds at each of them.
 -- Assumes nothing.
-use Prim.Native.Nat.{ℕ, zero, suc, ◌<◌}
-use native.Mathlib.Omega.{arith}
-use mathlib.Core.Path.{◌≡◌, refl}
-use mathlib.Core.Bool.{Bool, true, false}
+use Rattle.std.proofs.Common.{ℕ, zero, suc, ◌<◌, arith, ◌≡◌, refl, Bool, true, false}
 use Rattle.base.specs.Choice.{both}
 use Rattle.base.proofs.OrderLaws.{below_none, below_next}
 

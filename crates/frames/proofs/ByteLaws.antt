@@ -1,15 +1,7 @@
 -- A byte that is read is the byte as it is written: two digits that read as b are, raised, the text of b, and
 -- the text of b reads as b. The digit rule enters by two computed tests, `digit_there` and `digit_back`.
 -- Assumes nothing.
-use Prim.Native.Nat.{ℕ, ◌+◌, ◌*◌, ◌/◌, ◌%◌, ◌<◌}
-use native.Mathlib.Omega.{arith}
-use mathlib.Core.Path.{◌≡◌, refl, sym, ◌∙◌, ap, ap₂, subst}
-use mathlib.Core.Bool.{Bool, true}
-use mathlib.Core.List.{List, [], ◌∷◌}
-use lib.Dec.{ltb, eqb}
-use lib.ListN.{get_or, drop}
-use lib.Seq.{get_or-drop}
-use borrow.Author.Tests.{lt-ltb, eqb-true}
+use Rattle.std.proofs.Common.{ℕ, ◌+◌, ◌*◌, ◌/◌, ◌%◌, ◌<◌, arith, ◌≡◌, refl, sym, ◌∙◌, ap, ap₂, subst, Bool, true, List, [], ◌∷◌, ltb, eqb, get_or, drop, get_or-drop, lt-ltb, eqb-true}
 use Rattle.base.specs.Choice.{pick}
 use Rattle.frames.specs.Digits.{digit_of, digit_text, raise, raised, digit_at, byte_at, word_at, Digits}
 use Rattle.frames.specs.Text.{word_bytes}

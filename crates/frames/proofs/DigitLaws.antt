@@ -1,16 +1,9 @@
 -- The digit rule, in either case of a letter; the digits of a text: the test of all of them, what bytes and
 -- sums of digits are at most, and what stays of a text that is raised.
 -- Assumes nothing.
-use Prim.Native.Nat.{ℕ, zero, suc, ◌+◌, ◌*◌, ◌-◌, ◌≤◌, ◌<◌}
-use native.Mathlib.Omega.{arith}
-use mathlib.Core.Path.{◌≡◌, refl, sym, ap, subst, ◌∙◌}
-use mathlib.Core.Bool.{Bool, true, false, not}
-use mathlib.Core.Logic.{⊎_elim}
-use mathlib.Core.List.{List, [], ◌∷◌}
-use lib.Dec.{ltb, leb, eqb}
-use lib.ListN.{length, get_or, drop, length-map, get_or-map}
-use lib.Seq.{get_or-drop}
-use borrow.Author.Tests.{ltb-true, ltb-false, le-leb, lt-leb, leb-false, eq-eqb, ne_eqb, eqb-true}
+use Rattle.std.proofs.Common.{ℕ, zero, suc, ◌+◌, ◌*◌, ◌-◌, ◌≤◌, ◌<◌, arith, ◌≡◌, refl, sym, ap, subst, ◌∙◌, Bool, true, false, not, ⊎_elim, List, [], ◌∷◌, ltb, leb, eqb, length, get_or, drop, get_or-drop, ltb-true, ltb-false, le-leb, leb-false, eq-eqb, ne_eqb, eqb-true}
+use Rattle.std.proofs.Math.ListN.{length-map, get_or-map}
+use borrow.Author.Tests.{lt-leb}
 use Rattle.base.specs.Choice.{pick}
 use Rattle.base.specs.Sums.{sum_to}
 use Rattle.base.proofs.OrderLaws.{le_or_lt}

@@ -1,14 +1,9 @@
 -- A line that is read is the line as it is written: digits and 0A, with the one check that makes the sum 0.
 -- `line_there`: a written line reads as its bytes; `line_back`: a right frame, raised, is the text of its
 -- bytes. Assumes nothing.
-use Prim.Native.Nat.{ℕ, zero, suc, ◌+◌, ◌*◌, ◌/◌, ◌%◌, ◌<◌, ◌≤◌}
-use native.Mathlib.Omega.{arith}
-use native.Mathlib.Numerals.{add-one}
-use mathlib.Core.Path.{◌≡◌, refl, sym, ◌∙◌, ap, ap₂}
-use mathlib.Core.List.{List, [], ◌∷◌, ◌++◌, append_assoc}
-use lib.ListN.{length, get_or, take, drop, length-append, get_or-append}
-use lib.Seq.{drop-cons, take-suc, ext_get_or, get_or-append_seam}
-use borrow.Author.Tests.{eq-eqb, eqb-true}
+use Rattle.std.proofs.Common.{ℕ, zero, suc, ◌+◌, ◌*◌, ◌/◌, ◌%◌, ◌<◌, ◌≤◌, arith, add-one, ◌≡◌, refl, sym, ◌∙◌, ap, ap₂, List, [], ◌∷◌, ◌++◌, append_assoc, length, get_or, take, drop, length-append, drop-cons, take-suc, ext_get_or, eq-eqb, eqb-true}
+use Rattle.std.proofs.Math.ListN.{get_or-append}
+use Rattle.std.proofs.Math.Seq.{get_or-append_seam}
 use Rattle.base.specs.Sums.{sum_to}
 use Rattle.base.specs.Rows.{list_from, list_of}
 use Rattle.base.proofs.SumLaws.{sum_step}

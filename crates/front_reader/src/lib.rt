@@ -1,5 +1,7 @@
 // The front of a plan: its head line, then its task lines, from any bytes to a table by value or the first
 // fault with its place.
+#![tactic(auto)]
+
 ghost use Rattle.std.specs.Prelude.{◌≡◌};
 ghost use Rattle.frames.specs.Digits.{digit_table};
 ghost use Rattle.lines.specs.Fields.{empty_table};

@@ -1,6 +1,8 @@
 // Every sum done by hand of document 01, run through the planner's answers by value: the lettered cases,
 // the numbers at the borders, and the digits; then levels. The file `stdout` is written from the documents'
 // text.
+#![tactic(auto)]
+
 ghost use Rattle.std.specs.Prelude.{◌<◌};
 
 use planner::{Answer, Done, Job, Verdict};

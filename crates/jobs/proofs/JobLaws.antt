@@ -1,9 +1,5 @@
 -- What is told of an answer, and from the answer by value to the promises. Assumes nothing.
-use Prim.Native.Nat.{ℕ, ◌≤◌}
-use native.Mathlib.Omega.{arith}
-use mathlib.Core.Path.{◌≡◌, ap, ap₂, ◌∙◌}
-use mathlib.Core.List.{List}
-use lib.ListN.{get_or}
+use Rattle.std.proofs.Common.{ℕ, ◌≤◌, arith, ◌≡◌, ap, ap₂, ◌∙◌, List, get_or}
 use Rattle.planner.specs.declared.Answer.{Answer}
 use Rattle.planner.specs.declared.Done.{Done}
 use Rattle.planner.proofs.CountLaws.{Small}

@@ -1,9 +1,7 @@
 -- Any two results that the promise of a public function of this crate allows are equal: the yes, and both of
 -- the caller's lists afterwards. The statements are over the promises as a caller reads them.
 -- Assumes nothing.
-use Prim.Native.Nat.{ℕ}
-use mathlib.Core.Path.{◌≡◌}
-use mathlib.Core.List.{List}
+use Rattle.std.proofs.Common.{ℕ, ◌≡◌, List}
 use borrow.Fn.Kinds.{Dens, res_t, ended_of}
 use contract.Lifetimes.{Lfts}
 use denote.Triple.Clauses.{AtExit}

@@ -1,5 +1,7 @@
 // Either job on a plan text and on a flat table: what is answered goes into a lent list of numbers, in one
 // order for all calls (the crate told), and the records into another.
+#![tactic(auto)]
+
 ghost use Rattle.std.specs.Prelude.{◌≤◌};
 ghost use Rattle.jobs.specs.Jobs.{Heard, PlanTold, TasksTold};
 

@@ -2,12 +2,8 @@
 -- to no more than m times h with all that stands out above h (`threshold`), and a choice comes to just that
 -- where each of its numbers reaches h and no other goes beyond.
 -- Assumes nothing.
-use Prim.Native.Nat.{ℕ, zero, suc, ◌+◌, ◌*◌, ◌-◌, ◌≤◌, ◌<◌, min}
-use native.Mathlib.Omega.{arith}
-use native.Mathlib.Nat.{le_antisymm, le_trans, le_of_eq}
-use mathlib.Core.Path.{◌≡◌, refl, sym, ap, ◌∙◌, subst}
-use mathlib.Core.List.{List}
-use lib.ListN.{replicate, get_or-replicate}
+use Rattle.std.proofs.Common.{ℕ, zero, suc, ◌+◌, ◌*◌, ◌-◌, ◌≤◌, ◌<◌, min, arith, le_antisymm, le_trans, le_of_eq, ◌≡◌, refl, sym, ap, ◌∙◌, subst, List, replicate}
+use Rattle.std.proofs.Math.ListN.{get_or-replicate}
 use Rattle.base.specs.Rows.{at}
 use Rattle.base.specs.Sums.{sum_to, top_to}
 use Rattle.base.proofs.SumLaws.{sum_same, sum_part, top_sum, top_same}

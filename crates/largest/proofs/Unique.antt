@@ -1,7 +1,6 @@
 -- Any two rows that the promise of `keep_largest` allows sum to the same under every cap.
 -- Assumes nothing.
-use Prim.Native.Nat.{ℕ, min}
-use mathlib.Core.Path.{◌≡◌}
+use Rattle.std.proofs.Common.{ℕ, min, ◌≡◌}
 use Rattle.base.specs.Sums.{sum_to}
 use Rattle.base.proofs.Unique.{only}
 use Rattle.largest.specs.Largest.{Largest}

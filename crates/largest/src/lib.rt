@@ -1,5 +1,7 @@
 // The m largest numbers of a row, chosen once: what they sum to under a cap is what the m largest sum to
 // under that cap, whatever the cap is.
+#![tactic(auto)]
+
 ghost use Rattle.std.specs.Prelude.{◌≤◌, ◌≡◌, length, replicate};
 ghost use Rattle.base.specs.Rows.{at};
 ghost use Rattle.largest.specs.Largest.{Largest, MostLeft};

@@ -1,13 +1,7 @@
 -- Places as levels is document 01's test; and EDF ignores levels.
 -- Assumes nothing.
-use Prim.Native.Nat.{ℕ, ◌+◌, ◌≤◌, ◌<◌}
-use native.Mathlib.Omega.{arith}
-use mathlib.Core.Path.{◌≡◌, refl, sym, ap, ◌∙◌}
-use mathlib.Core.Bool.{true}
-use mathlib.Core.List.{List}
-use mathlib.Core.Logic.{◌↔◌, inl, inr, ⊎_elim}
-use lib.Dec.{leb, ltb}
-use borrow.Author.Tests.{leb-true, le-leb, lt-leb, le-ltb, lt-ltb}
+use Rattle.std.proofs.Common.{ℕ, ◌+◌, ◌≤◌, ◌<◌, arith, ◌≡◌, refl, sym, ap, ◌∙◌, true, List, ◌↔◌, inl, inr, ⊎_elim, leb, ltb, leb-true, le-leb, le-ltb, lt-ltb}
+use borrow.Author.Tests.{lt-leb}
 use Rattle.base.proofs.OrderLaws.{le_or_lt}
 use Rattle.base.specs.Rows.{list_of}
 use Rattle.base.proofs.RowLaws.{list_same}

@@ -1,4 +1,6 @@
 // One line of a plan: its frame, then its fields. The digit table is lent by the caller.
+#![tactic(auto)]
+
 ghost use Rattle.std.specs.Prelude.{◌≡◌, ◌≤◌, length};
 ghost use Rattle.frames.specs.Digits.{Digits, digit_table};
 ghost use Rattle.lines.specs.Form.{FormSized};

@@ -1,15 +1,8 @@
 -- A front is passed exactly where it is, raised, the text that a legal table is written as, and returns that
 -- table: line by line, by the laws of one line's text.
 -- Assumes nothing.
-use Prim.Native.Nat.{ℕ, zero, suc, ◌+◌, ◌*◌, ◌≤◌, ◌<◌}
-use native.Mathlib.Omega.{arith}
-use native.Mathlib.Nat.{eq-or-lt_of_le}
-use native.Mathlib.Numerals.{add-one}
-use mathlib.Core.Path.{◌≡◌, refl, sym, ap, ap₂, subst, ◌∙◌}
-use mathlib.Core.Logic.{⊎_elim}
-use mathlib.Core.List.{List, [], ◌++◌, append_assoc, append-nil}
-use lib.ListN.{length, take, drop, replicate, length-append, get_or-eq_default}
-use lib.Seq.{take-add, drop_at}
+use Rattle.std.proofs.Common.{ℕ, zero, suc, ◌+◌, ◌*◌, ◌≤◌, ◌<◌, arith, eq-or-lt_of_le, add-one, ◌≡◌, refl, sym, ap, ap₂, subst, ◌∙◌, ⊎_elim, List, [], ◌++◌, append_assoc, append-nil, length, take, drop, replicate, length-append, take-add, drop_at}
+use Rattle.std.proofs.Math.ListN.{get_or-eq_default}
 use Rattle.base.specs.Rows.{row}
 use Rattle.base.proofs.OrderLaws.{le_or_lt}
 use Rattle.base.proofs.RowLaws.{row_length, row_at, row_past, row_is}

@@ -1,9 +1,6 @@
 -- Where the lines of a plan start, by its form.
 -- Assumes nothing.
-use Prim.Native.Nat.{ℕ, ◌+◌, ◌*◌, ◌≤◌}
-use native.Mathlib.Omega.{arith}
-use native.Mathlib.Nat.{mul-add, mul-le-mul}
-use mathlib.Core.Path.{◌≡◌, refl}
+use Rattle.std.proofs.Common.{ℕ, ◌+◌, ◌*◌, ◌≤◌, arith, mul-add, mul-le-mul, ◌≡◌, refl}
 use Rattle.lines.specs.declared.Form.{Form}
 use Rattle.lines.specs.Form.{form1, line_length, line_start, FormSized}
 

@@ -1,11 +1,6 @@
 -- Whether the levels of a table are its places: the loop that looks for the first task where they are not,
 -- turn by turn, and what its answer says. Assumes nothing.
-use Prim.Native.Nat.{ℕ, ◌+◌, ◌≤◌, ◌<◌}
-use native.Mathlib.Omega.{arith}
-use mathlib.Core.Path.{◌≡◌, refl, ap, ◌∙◌}
-use mathlib.Core.Bool.{Bool, true, false, not}
-use lib.Dec.{eqb}
-use borrow.Author.Tests.{eq-eqb, ne_eqb, eqb-true}
+use Rattle.std.proofs.Common.{ℕ, ◌+◌, ◌≤◌, ◌<◌, arith, ◌≡◌, refl, ap, ◌∙◌, Bool, true, false, not, eqb, eq-eqb, ne_eqb, eqb-true}
 use Rattle.base.specs.Choice.{pick}
 use Rattle.base.proofs.FirstLaws.{NoneTo, first_none, none_first, find_start, find_step, find_here}
 use Rattle.base.proofs.FirstLaws.{find_none}

@@ -1,12 +1,7 @@
 -- Reading refuses with a number and a place exactly when document 01's table of refusals gives them:
 -- `front_stopped` goes by the way to the fault, `front_cases` finds that way for every text.
 -- Assumes nothing.
-use Prim.Native.Nat.{ℕ, zero, suc, ◌+◌, ◌≤◌, ◌<◌}
-use native.Mathlib.Omega.{arith}
-use mathlib.Core.Path.{◌≡◌, refl, sym, ap, subst, ◌∙◌}
-use mathlib.Core.Logic.{◌⊎◌, inl, inr, ⊎_elim}
-use mathlib.Core.List.{List}
-use lib.ListN.{length}
+use Rattle.std.proofs.Common.{ℕ, zero, suc, ◌+◌, ◌≤◌, ◌<◌, arith, ◌≡◌, refl, sym, ap, subst, ◌∙◌, ◌⊎◌, inl, inr, ⊎_elim, List, length}
 use Rattle.base.proofs.OrderLaws.{le_or_lt, below_none, below_next}
 use Rattle.base.proofs.FirstLaws.{NoneTo}
 use Rattle.table.specs.declared.Table.{Table}

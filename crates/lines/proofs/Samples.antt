@@ -1,9 +1,6 @@
 -- Document 01's own plan, and the empty input (case l): the definitions compute to what the document says.
 -- Assumes nothing.
-use Prim.Native.Nat.{ℕ}
-use mathlib.Core.Path.{◌≡◌, refl}
-use mathlib.Core.List.{List, [], ◌∷◌}
-use lib.ListN.{replicate}
+use Rattle.std.proofs.Common.{ℕ, ◌≡◌, refl, List, [], ◌∷◌, replicate}
 use Rattle.table.specs.declared.Table.{Table}
 use Rattle.table.specs.Table.{no_task}
 use Rattle.frames.specs.Digits.{digit_text}

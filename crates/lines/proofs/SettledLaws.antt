@@ -2,15 +2,8 @@
 -- their first 1,003 bytes have the same front, and those that are alike in 1,004 the same reading. So no more
 -- of a text need be held, and a raised text is read as the text is.
 -- Assumes nothing.
-use Prim.Native.Nat.{ℕ, zero, suc, ◌+◌, ◌≤◌, ◌<◌}
-use native.Mathlib.Omega.{arith}
-use mathlib.Core.Path.{◌≡◌, refl, sym, ap, ◌∙◌}
-use mathlib.Core.Bool.{not}
-use mathlib.Core.Logic.{⊎_elim}
-use mathlib.Core.List.{List}
-use lib.ListN.{length, drop}
-use lib.Dec.{leb, ltb, eqb}
-use borrow.Author.Tests.{le-leb, lt-leb, lt-ltb, le-ltb, leb-true, leb-false}
+use Rattle.std.proofs.Common.{ℕ, zero, suc, ◌+◌, ◌≤◌, ◌<◌, arith, ◌≡◌, refl, sym, ap, ◌∙◌, not, ⊎_elim, List, length, drop, leb, ltb, eqb, le-leb, lt-ltb, le-ltb, leb-true, leb-false}
+use borrow.Author.Tests.{lt-leb}
 use Rattle.base.specs.Choice.{pick, or_else}
 use Rattle.base.proofs.OrderLaws.{le_or_lt}
 use Rattle.base.proofs.FirstLaws.{first_same, is_first}

@@ -1,24 +1,26 @@
 // The lines of a plan, as they are passed on. Beside these types the crate has definitions and their laws.
 // The code that reads plans is in `line_reader`, `front_reader` and `reader`, the code that writes them in
 // `writer`.
+#![tactic(auto)]
+
 use table::{Checked, NO_TASK, Table, Task};
 
 // The kind of a frame, and its bytes with kind and check.
-#[derive(Drop)]
+#[derive(Clone, Copy)]
 pub struct Frame {
     pub kind: u32,
     pub size: usize,
 }
 
 // The form of a plan: the frames of its lines.
-#[derive(Drop)]
+#[derive(Clone, Copy)]
 pub struct Form {
     pub head: Frame,
     pub task: Frame,
 }
 
 // The numbers of a head line.
-#[derive(Drop)]
+#[derive(Clone, Copy)]
 pub struct Head {
     pub cores: u32,
     pub policy: u32,
@@ -27,7 +29,7 @@ pub struct Head {
 
 // The front of a text: fine with the table of its head and task lines and the place where they end, or the
 // first fault with its place, a table of zeros and the end 0.
-#[derive(Drop)]
+#[derive(Clone, Copy)]
 pub struct Front {
     pub answer: Checked,
     pub table: Table,
@@ -35,21 +37,21 @@ pub struct Front {
 }
 
 // Fine with the table that was read, or the first fault with its place and a table of zeros.
-#[derive(Drop)]
+#[derive(Clone, Copy)]
 pub struct Reading {
     pub answer: Checked,
     pub table: Table,
 }
 
 // What a head line holds: its numbers, or the number of its first fault.
-#[derive(Drop)]
+#[derive(Clone, Copy)]
 pub enum HeadLine {
     Fit(Head),
     Unfit(u32),
 }
 
 // What a task line holds: its task, or the number of its first fault.
-#[derive(Drop)]
+#[derive(Clone, Copy)]
 pub enum TaskLine {
     Right(Task),
     Wrong(u32),

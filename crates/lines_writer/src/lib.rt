@@ -1,5 +1,7 @@
 // The task lines of a plan, each written into the part of the buffer that starts after the last line written:
 // document 02, Wish 1. They hold no level: whether a table's levels are its places, Wish 8.
+#![tactic(auto)]
+
 ghost use Rattle.std.specs.Prelude.{◌≡◌, ◌+◌, ◌≤◌, length, take};
 ghost use Rattle.table.specs.Table.{LegalTask, LegalTable};
 ghost use Rattle.buffer.specs.Put.{Put};

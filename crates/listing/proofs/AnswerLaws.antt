@@ -1,13 +1,7 @@
 -- The listing of a legal table fits: an accepted table's bounds are at most 1,000,000, at most 32 of its
 -- tasks are forced, in at most 33 passes; a refusal's place is at most 32. By the model's laws: a bound is at
 -- most D, and the passes are at most n + 1. Assumes nothing.
-use Prim.Native.Nat.{ℕ, zero, suc, ◌≤◌, ◌<◌}
-use native.Mathlib.Omega.{arith}
-use mathlib.Core.Path.{refl}
-use mathlib.Core.Bool.{true}
-use mathlib.Core.List.{List}
-use lib.ListN.{length}
-use lib.Dec.{eqb}
+use Rattle.std.proofs.Common.{ℕ, zero, suc, ◌≤◌, ◌<◌, arith, refl, true, List, length, eqb}
 use Rattle.base.specs.Choice.{or_else}
 use Rattle.base.specs.Rows.{at}
 use Rattle.base.proofs.SumLaws.{sum_cap}

@@ -1,7 +1,6 @@
 -- Document 01's own example, and the empty input (case l): the definitions compute to the text it prints.
 -- Assumes nothing.
-use mathlib.Core.Path.{◌≡◌, refl}
-use mathlib.Core.List.{[], ◌++◌}
+use Rattle.std.proofs.Common.{◌≡◌, refl, [], ◌++◌}
 use Rattle.base.specs.Sums.{sum_to, top_to}
 use Rattle.base.specs.Least.{least, first_from}
 use Rattle.model.specs.Bound.{

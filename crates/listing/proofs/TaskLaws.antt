@@ -1,13 +1,6 @@
 -- The tasks' lines, written one after the other: one turn of the loop over plain values.
 -- Assumes nothing.
-use Prim.Native.Nat.{ℕ, zero, suc, ◌+◌, ◌≤◌, ◌<◌}
-use native.Mathlib.Omega.{arith}
-use native.Mathlib.Numerals.{add-one}
-use native.Mathlib.Nat.{eq-or-lt_of_le}
-use mathlib.Core.Path.{◌≡◌, refl, ap}
-use mathlib.Core.Logic.{⊎_elim}
-use mathlib.Core.List.{List}
-use lib.ListN.{length, length-append}
+use Rattle.std.proofs.Common.{ℕ, zero, suc, ◌+◌, ◌≤◌, ◌<◌, arith, add-one, eq-or-lt_of_le, ◌≡◌, refl, ap, ⊎_elim, List, length, length-append}
 use Rattle.table.specs.Table.{task_at, LegalTable}
 use Rattle.table.specs.declared.Table.{Table}
 use Rattle.table.specs.Load.{load_at}

@@ -8,10 +8,7 @@
 --   document 01's own example, and the empty input (case l)               example, empty
 --
 -- Assumes nothing.
-use Prim.Native.Nat.{ℕ, ◌≤◌}
-use mathlib.Core.Path.{◌≡◌}
-use mathlib.Core.List.{List, [], ◌++◌}
-use lib.ListN.{length, take}
+use Rattle.std.proofs.Common.{ℕ, ◌≤◌, ◌≡◌, List, [], ◌++◌, length, take}
 use Rattle.page.specs.Words.{word}
 use Rattle.base.proofs.Unique.{only, Only, OnlyWith}
 use Rattle.buffer.proofs.PutLaws.{put_only}

@@ -1,4 +1,6 @@
 // The listing of a plan after forcing, into a buffer that the caller lends. Document 01, "The listing".
+#![tactic(auto)]
+
 ghost use Rattle.std.specs.Prelude.{◌+◌, ◌<◌, ◌≤◌, ◌≡◌, length};
 ghost use Rattle.table.specs.Table.{LegalTable};
 ghost use Rattle.buffer.specs.Put.{Put};
@@ -10,7 +12,7 @@ use table::{Checked, Table};
 use task_lines::TaskRow;
 
 // The table of a text, and what forcing says of it.
-#[derive(Drop)]
+#[derive(Clone, Copy)]
 pub struct Sent {
     pub table: Table,
     pub done: Done,

@@ -1,13 +1,6 @@
 -- Each line of the listing as the words that are written one after the other, and its length by theirs.
 -- Assumes nothing.
-use Prim.Native.Nat.{ℕ, ◌+◌, ◌≤◌}
-use mathlib.Core.Bool.{Bool, true, false}
-use native.Mathlib.Omega.{arith}
-use mathlib.Core.Path.{◌≡◌, refl, ap, ◌∙◌}
-use mathlib.Core.List.{◌++◌, append_assoc, append-nil}
-use lib.ListN.{length, length-append}
-use lib.Dec.{eqb}
-use borrow.Author.Tests.{eq-eqb, ne_eqb}
+use Rattle.std.proofs.Common.{ℕ, ◌+◌, ◌≤◌, Bool, true, false, arith, ◌≡◌, refl, ap, ◌∙◌, ◌++◌, append_assoc, append-nil, length, length-append, eqb, eq-eqb, ne_eqb}
 use Rattle.page.specs.Decimal.{decimal}
 use Rattle.page.specs.Words.{word, either, field}
 use Rattle.page.proofs.WordLaws.{either_after}

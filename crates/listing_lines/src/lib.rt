@@ -1,4 +1,6 @@
 // The first and the last line of the listing. Document 01, "The listing".
+#![tactic(auto)]
+
 ghost use Rattle.std.specs.Prelude.{◌+◌, ◌≤◌, length};
 ghost use Rattle.buffer.specs.Put.{Put};
 ghost use Rattle.listing_lines.specs.Lines.{line_one, last_line};

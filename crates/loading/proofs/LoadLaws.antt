@@ -1,11 +1,6 @@
 -- Task by task into rows, flags and levels: what a loop knows at the start, after one task more, and at its
 -- end. Assumes nothing.
-use Prim.Native.Nat.{ℕ, ◌+◌, ◌-◌, ◌<◌, min}
-use native.Mathlib.Omega.{arith}
-use mathlib.Core.Path.{◌≡◌, refl, sym, ap, ◌∙◌}
-use mathlib.Core.List.{List}
-use lib.Dec.{eqb}
-use lib.ListN.{replicate}
+use Rattle.std.proofs.Common.{ℕ, ◌+◌, ◌-◌, ◌<◌, min, arith, ◌≡◌, refl, sym, ap, ◌∙◌, List, eqb, replicate}
 use Rattle.base.specs.Choice.{pick}
 use Rattle.base.specs.Rows.{at}
 use Rattle.base.proofs.RowLaws.{fill_step}

@@ -1,4 +1,6 @@
 // A table as it is loaded: task by task into rows and flags, with no copy of the tasks between.
+#![tactic(auto)]
+
 ghost use Rattle.std.specs.Prelude.{◌≡◌, ◌<◌};
 ghost use Rattle.table.specs.Table.{LegalTask};
 ghost use Rattle.table.specs.Checks.{faulty};
@@ -9,7 +11,7 @@ use rows::{Head, NO_LEVELS};
 use table::{Checked, Refusal, Task};
 
 // What the checks or a reading say; where that is fine, the head and the flags of what the rows hold.
-#[derive(Drop)]
+#[derive(Clone, Copy)]
 pub struct Loaded {
     pub answer: Checked,
     pub head: Head,

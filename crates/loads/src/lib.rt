@@ -1,4 +1,6 @@
 // The loads of document 02, wish 2: of one task, and of a table in all.
+#![tactic(auto)]
+
 ghost use Rattle.std.specs.Prelude.{◌≡◌, ◌≤◌, ◌<◌};
 ghost use Rattle.table.specs.Table.{LegalTable};
 ghost use Rattle.table.specs.Load.{load, total_load};

@@ -1,10 +1,7 @@
 -- What forcing promises, of a legal table: at most p + 1 passes; what it accepts passes, and is the least
 -- that does; what it refuses passes under no assignment. Each restates a law of `run` for `force`.
 -- Assumes nothing.
-use Prim.Native.Nat.{ℕ, zero, suc, ◌+◌, ◌≤◌, ◌<◌}
-use native.Mathlib.Omega.{arith}
-use mathlib.Core.Path.{◌≡◌, refl, sym, ap, ◌∙◌}
-use mathlib.Core.List.{List}
+use Rattle.std.proofs.Common.{ℕ, zero, suc, ◌+◌, ◌≤◌, ◌<◌, arith, ◌≡◌, refl, sym, ap, ◌∙◌, List}
 use Rattle.model.specs.Demands.{Timed, Passes, Settled, Holds, Flags}
 use Rattle.base.specs.Sums.{sum_to}
 use Rattle.model.specs.Bound.{System, bound}

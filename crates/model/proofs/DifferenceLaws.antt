@@ -1,12 +1,7 @@
 -- The differences of document 01's EDF sum, max(0, min(W, C - 1, l) - min(W, E, l)), are 0 without slack:
 -- E(k,i) is never below min(C_i, D_k), and no length of the range is above D_k.
 -- Assumes nothing.
-use Prim.Native.Nat.{ℕ, zero, suc, ◌-◌, ◌≤◌, min}
-use native.Mathlib.Omega.{arith}
-use native.Mathlib.Nat.{sub-eq-zero_of_le}
-use mathlib.Core.Path.{◌≡◌, refl}
-use mathlib.Core.Bool.{Bool, true, false}
-use lib.Dec.{eqb}
+use Rattle.std.proofs.Common.{ℕ, zero, suc, ◌-◌, ◌≤◌, min, arith, sub-eq-zero_of_le, ◌≡◌, refl, Bool, true, false, eqb}
 use Rattle.base.specs.Choice.{pick}
 use Rattle.model.proofs.ValidationLaws.{E-least}
 use Rattle.model.specs.Bound.{Policy, EDF, FP, System, block, cap, block_of}

@@ -1,14 +1,7 @@
 -- The lowest-numbered task without a bound: what 0 and any other number mean, and when each is the answer.
 -- Assumes nothing.
-use Prim.Native.Nat.{ℕ, suc, ◌<◌}
-use native.Mathlib.Omega.{arith}
-use native.Mathlib.Nat.{eq-zero-or-pos}
-use mathlib.Core.Path.{◌≡◌}
-use mathlib.Core.Bool.{Bool, false}
-use mathlib.Core.List.{List}
-use mathlib.Core.Logic.{⊎_elim}
-use lib.Dec.{eqb}
-use borrow.Author.Tests.{eqb-true, eqb-false, eq-eqb, ne_eqb}
+use Rattle.std.proofs.Common.{ℕ, suc, ◌<◌, arith, eq-zero-or-pos, ◌≡◌, Bool, false, List, ⊎_elim, eqb, eqb-true, eq-eqb, ne_eqb}
+use borrow.Author.Tests.{eqb-false}
 use Rattle.base.specs.Rows.{at}
 use Rattle.base.proofs.FirstLaws.{First, first_is, first_none, none_first, is_first}
 use Rattle.model.specs.Bound.{System}

@@ -1,10 +1,7 @@
 -- An EDF answer does not depend on the order of the tasks. The idea: a table in another order lies in the
 -- first one, and the first one in it, so each bound is no worse than the other (`left_out`, both ways).
 -- Assumes nothing.
-use Prim.Native.Nat.{ℕ, ◌<◌}
-use native.Mathlib.Omega.{arith}
-use mathlib.Core.Path.{◌≡◌, sym, ap, ◌∙◌}
-use mathlib.Core.Logic.{inl}
+use Rattle.std.proofs.Common.{ℕ, ◌<◌, arith, ◌≡◌, sym, ap, ◌∙◌, inl}
 use Rattle.model.specs.Bound.{EDF, System, bound}
 use Rattle.base.proofs.LeastLaws.{no_worse_both}
 use Rattle.model.proofs.PlaceLaws.{Within, left_out}

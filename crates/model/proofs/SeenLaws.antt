@@ -3,15 +3,8 @@
 -- together: the bound depends on what the task sees alone. The idea: a task that is not seen adds 0 to the
 -- sum and 0 to the candidates, so the sum over the places is the sum over the list of what is seen.
 -- Assumes nothing.
-use Prim.Native.Nat.{ℕ, zero, suc, ◌+◌, ◌-◌, ◌/◌, ◌≤◌, ◌<◌, max}
-use native.Mathlib.Omega.{arith}
-use native.Mathlib.Nat.{le_of_eq, le_refl, le_antisymm}
-use mathlib.Core.Path.{◌≡◌, refl, sym, ap₂}
-use mathlib.Core.List.{List, [], ◌∷◌}
-use mathlib.Core.Bool.{Bool, true, false}
-use mathlib.Core.Logic.{◌⊎◌, inl, inr, ⊎_elim}
-use lib.Dec.{eqb}
-use borrow.Author.Tests.{eqb-true, eqb-false}
+use Rattle.std.proofs.Common.{ℕ, zero, suc, ◌+◌, ◌-◌, ◌/◌, ◌≤◌, ◌<◌, max, arith, le_of_eq, le_refl, le_antisymm, ◌≡◌, refl, sym, ap₂, List, [], ◌∷◌, Bool, true, false, ◌⊎◌, inl, inr, ⊎_elim, eqb, eqb-true}
+use borrow.Author.Tests.{eqb-false}
 use Rattle.base.specs.Choice.{pick}
 use Rattle.base.specs.Sums.{sum_to, top_to}
 use Rattle.model.specs.Bound.{Policy, FP, System, work_in, W, share, block, cap}

@@ -2,14 +2,8 @@
 -- max(0, D_k - S_i); and the differences of document 01's EDF sum under slacks, min(C_i - 1, l) -
 -- max(0, D_k - S_i) where that is above 0. Neither W nor D_i > D_k shows in them.
 -- Assumes nothing.
-use Prim.Native.Nat.{ℕ, zero, suc, ◌+◌, ◌*◌, ◌-◌, ◌/◌, ◌%◌, ◌≤◌, ◌<◌, min}
-use native.Mathlib.Omega.{arith}
-use native.Mathlib.Nat.{div-add-mod', mod-lt, sub-eq-zero_of_le, div-eq_of_lt-le}
-use mathlib.Core.Path.{◌≡◌, refl, sym, ap, ◌∙◌}
-use mathlib.Core.Logic.{⊎_elim}
-use mathlib.Core.Bool.{Bool, true, false}
-use lib.Dec.{eqb, ltb}
-use borrow.Author.Tests.{ltb-false}
+use Rattle.std.proofs.Common.{ℕ, zero, suc, ◌+◌, ◌*◌, ◌-◌, ◌/◌, ◌%◌, ◌≤◌, ◌<◌, min, arith, div-add-mod', mod-lt, sub-eq-zero_of_le, ◌≡◌, refl, sym, ap, ◌∙◌, ⊎_elim, Bool, true, false, eqb, ltb, ltb-false}
+use Rattle.std.proofs.Math.Nat.{div-eq_of_lt-le}
 use Rattle.base.specs.Choice.{pick}
 use Rattle.base.proofs.OrderLaws.{le_or_lt}
 use Rattle.model.specs.Bound.{EDF, System, under, work_in, W, E, block, cap, block_of}

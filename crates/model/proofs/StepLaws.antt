@@ -3,14 +3,7 @@
 -- task without a bound stays without one while its own flag stays, so flags at which nothing is to be forced
 -- hold whatever a step forces.
 -- Assumes nothing.
-use Prim.Native.Nat.{ℕ, zero, suc, ◌+◌, ◌≤◌, ◌<◌}
-use native.Mathlib.Omega.{arith}
-use native.Mathlib.Nat.{eq-zero-or-pos, eq-or-lt_of_le, le_antisymm, le_of_eq, le_refl}
-use mathlib.Core.Path.{◌≡◌, refl, sym, ◌∙◌}
-use mathlib.Core.Logic.{inl, inr, ⊎_elim}
-use mathlib.Core.List.{List}
-use lib.Dec.{eqb}
-use borrow.Author.Tests.{eq-eqb, ne_eqb}
+use Rattle.std.proofs.Common.{ℕ, zero, suc, ◌+◌, ◌≤◌, ◌<◌, arith, eq-zero-or-pos, eq-or-lt_of_le, le_antisymm, le_of_eq, le_refl, ◌≡◌, refl, sym, ◌∙◌, inl, inr, ⊎_elim, List, eqb, eq-eqb, ne_eqb}
 use Rattle.base.specs.Choice.{pick}
 use Rattle.base.specs.Sums.{sum_to}
 use Rattle.model.specs.Bound.{System, bound}

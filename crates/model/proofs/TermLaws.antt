@@ -1,14 +1,8 @@
 -- Laws of the terms of B: each share, alone and with its candidate, never falls as its numbers grow or as its
 -- task is made non-preemptive, hence neither does B; and no term is above q. By cases on the table of sums.
 -- Assumes nothing.
-use Prim.Native.Nat.{ℕ, zero, suc, ◌+◌, ◌*◌, ◌-◌, ◌/◌, ◌%◌, ◌≤◌, ◌<◌, min}
-use native.Mathlib.Omega.{arith}
-use mathlib.Core.Path.{◌≡◌, refl}
-use mathlib.Core.Bool.{Bool, true, false}
-use mathlib.Core.Logic.{⊎_elim}
-use native.Mathlib.Nat.{mul-le-mul_right, eq-or-lt_of_le, div-mul-le_self, div-add-mod'}
-use native.Mathlib.Nat.{le-div_iff_mul-le, le_trans, eq-zero-or-pos, div-zero, le_refl}
-use lib.Dec.{ltb, eqb}
+use Rattle.std.proofs.Common.{ℕ, zero, suc, ◌+◌, ◌*◌, ◌-◌, ◌/◌, ◌%◌, ◌≤◌, ◌<◌, min, arith, ◌≡◌, refl, Bool, true, false, ⊎_elim, mul-le-mul_right, eq-or-lt_of_le, div-mul-le_self, div-add-mod', le-div_iff_mul-le, le_trans, eq-zero-or-pos, le_refl, ltb, eqb}
+use Rattle.std.proofs.Math.Nat.{div-zero}
 use Rattle.base.specs.Choice.{pick}
 use Rattle.base.proofs.SumLaws.{whole_mono}
 use Rattle.model.specs.Bound.{Policy, EDF, FP, System, under, work_in, W, E, share, block}

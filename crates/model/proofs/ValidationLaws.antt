@@ -2,14 +2,8 @@
 -- nothing competes. The idea of `bound_alone`: at the first length q is 1, so each other task adds at most 1
 -- to the sum, in all less than m.
 -- Assumes nothing.
-use Prim.Native.Nat.{ℕ, zero, suc, ◌+◌, ◌*◌, ◌-◌, ◌/◌, ◌≤◌, ◌<◌, min}
-use native.Mathlib.Omega.{arith}
-use native.Mathlib.Nat.{div-eq_of_lt, eq-or-lt_of_le, le_refl}
-use mathlib.Core.Path.{◌≡◌, refl, ap}
-use mathlib.Core.Logic.{⊎_elim}
-use mathlib.Core.Bool.{Bool, true, false}
-use lib.Dec.{eqb}
-use borrow.Author.Tests.{eq-eqb}
+use Rattle.std.proofs.Common.{ℕ, zero, suc, ◌+◌, ◌*◌, ◌-◌, ◌/◌, ◌≤◌, ◌<◌, min, arith, eq-or-lt_of_le, le_refl, ◌≡◌, refl, ap, ⊎_elim, Bool, true, false, eqb, eq-eqb}
+use Rattle.std.proofs.Math.Nat.{div-eq_of_lt}
 use Rattle.base.specs.Choice.{pick}
 use Rattle.base.specs.Sums.{sum_to}
 use Rattle.model.specs.Bound.{Policy, EDF, FP, System, Legal, work_in, W, E, share, block, by_flag, from}

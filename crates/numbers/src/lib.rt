@@ -1,4 +1,6 @@
 // Plain numbers: the least of two, and how far one lies past another.
+#![tactic(auto)]
+
 ghost use Rattle.std.specs.Prelude.{◌≡◌, ◌-◌, min};
 
 pub fn least_of(a: u32, b: u32) -> u32

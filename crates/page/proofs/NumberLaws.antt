@@ -1,10 +1,6 @@
 -- A number is written as its digits: those of its tenth part, and then the last one.
 -- Each law is on plain lists and numbers. Assumes nothing.
-use Prim.Native.Nat.{ℕ, ◌+◌, ◌/◌, ◌%◌, ◌≤◌, ◌<◌}
-use native.Mathlib.Omega.{arith}
-use mathlib.Core.Path.{ap}
-use mathlib.Core.List.{List, [], ◌∷◌}
-use lib.ListN.{length, length-append}
+use Rattle.std.proofs.Common.{ℕ, ◌+◌, ◌/◌, ◌%◌, ◌≤◌, ◌<◌, arith, ap, List, [], ◌∷◌, length, length-append}
 use Rattle.buffer.specs.Put.{Put}
 use Rattle.page.specs.Decimal.{decimal}
 use Rattle.buffer.proofs.PutLaws.{put_then}

@@ -1,8 +1,6 @@
 -- One of two words: which it is, and what the two have in common before it.
 -- Assumes nothing.
-use Prim.Native.Nat.{ℕ, zero, suc}
-use mathlib.Core.Path.{◌≡◌, refl, sym, ap}
-use mathlib.Core.List.{List, ◌++◌}
+use Rattle.std.proofs.Common.{ℕ, zero, suc, ◌≡◌, refl, sym, ap, List, ◌++◌}
 use Rattle.page.specs.Words.{either}
 
 pub either_zero : (n : ℕ) (a b : List ℕ) → n ≡ 0 → a ≡ either n a b

@@ -1,15 +1,8 @@
 -- From where a search may go on: no q below that of a task's bound is enough, under the flags of that bound
 -- and under any with which more of the other tasks are non-preemptive.
 -- Assumes nothing.
-use Prim.Native.Nat.{ℕ, ◌+◌, ◌-◌, ◌≤◌, ◌<◌}
-use native.Mathlib.Omega.{arith}
-use native.Mathlib.Nat.{le_refl}
-use mathlib.Core.Path.{◌≡◌, refl, sym, ap, ◌∙◌, subst}
-use mathlib.Core.Bool.{false}
-use mathlib.Core.Logic.{⊎_elim}
-use lib.ListN.{length}
-use lib.Dec.{ltb}
-use borrow.Author.Tests.{lt-leb, leb-false, lt-ltb, le-ltb}
+use Rattle.std.proofs.Common.{ℕ, ◌+◌, ◌-◌, ◌≤◌, ◌<◌, arith, le_refl, ◌≡◌, refl, sym, ap, ◌∙◌, subst, false, ⊎_elim, length, ltb, leb-false, lt-ltb, le-ltb}
+use borrow.Author.Tests.{lt-leb}
 use Rattle.base.specs.Least.{least}
 use Rattle.base.specs.Rows.{at}
 use Rattle.base.proofs.LeastLaws.{Found, Answer, least_says}

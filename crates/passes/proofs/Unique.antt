@@ -1,9 +1,6 @@
 -- Any two rows and results that the promises of this crate allow are equal, as far as they say anything.
 -- Assumes nothing.
-use Prim.Native.Nat.{ℕ, ◌<◌}
-use mathlib.Core.Path.{◌≡◌}
-use mathlib.Core.List.{List}
-use lib.Dec.{eqb}
+use Rattle.std.proofs.Common.{ℕ, ◌<◌, ◌≡◌, List, eqb}
 use Rattle.base.specs.Least.{first_of}
 use Rattle.base.specs.Rows.{at, row}
 use Rattle.base.proofs.Unique.{only}

@@ -1,5 +1,7 @@
 // Searches of many tasks over the rows of a table, each into a lent row of bounds: the test of all; one pass
 // of forcing, over preemptive tasks; and, where forcing ends, the non-preemptive tasks.
+#![tactic(auto)]
+
 ghost use Rattle.std.specs.Prelude.{◌≡◌, ◌≤◌, ◌<◌, replicate};
 ghost use Rattle.base.specs.Rows.{row};
 ghost use Rattle.model.specs.Bound.{bound};

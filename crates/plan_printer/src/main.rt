@@ -5,13 +5,15 @@
 // by those bytes alone: every due line of at most 32 tasks lies within the first 1,003, and that a byte
 // follows the last line is seen from the 1,004th at the latest (`listing_settled`, in the crate listing).
 // A failed read or write is told on standard error; a failed read gives no listing at all.
+#![tactic(auto)]
+
 ghost use Rattle.std.specs.Prelude.{◌≤◌, length, replicate};
 ghost use Rattle.listing.specs.Listing.{Ready};
 
 use listing::Sent;
 
 // How many bytes were read, and whether a read failed.
-#[derive(Drop)]
+#[derive(Clone, Copy)]
 struct Input {
     count: usize,
     failed: bool,
@@ -54,7 +56,7 @@ fn write_text(fd: i32, text: &[u8]) -> bool {
 }
 
 // What is to be listed of the input, if it could be read.
-#[derive(Drop)]
+#[derive(Clone, Copy)]
 struct Heard {
     failed: bool,
     sent: Sent,

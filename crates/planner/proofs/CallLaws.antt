@@ -1,9 +1,6 @@
 -- What a call is answered, by what it sends: the answer to its table, or its first fault; and every call
 -- sends a legal table or has a first fault, never both. Assumes nothing.
-use Prim.Native.Nat.{ℕ}
-use native.Mathlib.Omega.{arith}
-use mathlib.Core.Path.{◌≡◌, sym, ◌∙◌}
-use mathlib.Core.Logic.{◌⊎◌, inl, inr, ⊎_elim}
+use Rattle.std.proofs.Common.{ℕ, arith, ◌≡◌, sym, ◌∙◌, ◌⊎◌, inl, inr, ⊎_elim}
 use Rattle.table.specs.declared.Table.{Table}
 use Rattle.table.specs.declared.Checked.TheVariants.{Fine}
 use Rattle.table.specs.Table.{LegalTable}

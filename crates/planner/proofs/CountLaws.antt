@@ -1,13 +1,7 @@
 -- How many records an answer writes: none if it refuses, else one for each task; the list has room for them.
 -- Assumes nothing.
-use Prim.Native.Nat.{ℕ, zero, suc, ◌≤◌}
-use native.Mathlib.Omega.{arith}
-use mathlib.Core.Path.{◌≡◌, refl, ap}
-use mathlib.Core.Bool.{Bool, true, false}
-use mathlib.Core.List.{List}
-use lib.ListN.{length, length-replicate}
-use lib.Dec.{ltb}
-use borrow.Author.Tests.{ltb-false}
+use Rattle.std.proofs.Common.{ℕ, zero, suc, ◌≤◌, arith, ◌≡◌, refl, ap, Bool, true, false, List, length, ltb, ltb-false}
+use Rattle.std.proofs.Math.ListN.{length-replicate}
 use Rattle.base.specs.Choice.{pick, or_else}
 use Rattle.base.proofs.RowLaws.{row_length}
 use Rattle.model.specs.Forcing.{Final}

@@ -1,15 +1,10 @@
 -- A list whose first k places are another's: as long as before, the other's elements in front, its own after.
 -- So is the caller's list after an answer, and so are the first 32 tasks of a list.
 -- Assumes nothing.
-use Prim.Native.Nat.{ℕ, ◌+◌, ◌-◌, ◌≤◌, ◌<◌, min}
-use native.Mathlib.Omega.{arith}
-use mathlib.Core.Path.{◌≡◌, ap, ◌∙◌}
-use mathlib.Core.List.{List, ◌++◌}
-use lib.ListN.{length, get_or, take, drop, replicate, length-append, length-drop, get_or-replicate}
-use lib.ListN.{get_or-append, get_or-eq_default}
-use lib.Seq.{length-take-le, get_or-append-add, get_or-drop, get_or-take}
+use Rattle.std.proofs.Common.{ℕ, ◌+◌, ◌-◌, ◌≤◌, ◌<◌, min, arith, ◌≡◌, ap, ◌∙◌, List, ◌++◌, length, get_or, take, drop, replicate, length-append, length-drop, length-take-le, get_or-append-add, get_or-drop, get_or-take, ◌⊎◌, ⊎_elim}
+use Rattle.std.proofs.Math.ListN.{get_or-replicate}
+use Rattle.std.proofs.Math.ListN.{get_or-append, get_or-eq_default}
 use Rattle.base.proofs.OrderLaws.{le_or_lt}
-use mathlib.Core.Logic.{◌⊎◌, ⊎_elim}
 use Rattle.table.specs.Table.{no_task, task_at}
 use Rattle.table.specs.declared.Task.{Task}
 use Rattle.planner.specs.Done.{loaded}

@@ -1,10 +1,6 @@
 -- A legal table is answered as document 01 says, and only so: each verdict is the definition's answer if and
 -- only if its condition holds. Assumes nothing.
-use Prim.Native.Nat.{ℕ, zero, suc, ◌<◌}
-use native.Mathlib.Omega.{arith}
-use mathlib.Core.Path.{◌≡◌, refl, sym, ap, subst, ◌∙◌}
-use lib.Dec.{eqb}
-use borrow.Author.Tests.{eq-eqb, ne_eqb}
+use Rattle.std.proofs.Common.{ℕ, zero, suc, ◌<◌, arith, ◌≡◌, refl, sym, ap, subst, ◌∙◌, eqb, eq-eqb, ne_eqb}
 use Rattle.base.specs.Choice.{or_else}
 use Rattle.base.specs.Rows.{at}
 use Rattle.model.specs.Bound.{bound}

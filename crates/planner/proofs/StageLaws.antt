@@ -1,13 +1,6 @@
 -- The stages of the code: what its rows and flags hold is what the definitions say, and each return is a case
 -- of its definition. Assumes nothing.
-use Prim.Native.Nat.{ℕ, zero, suc, ◌+◌, ◌≤◌, ◌<◌}
-use native.Mathlib.Omega.{arith}
-use mathlib.Core.Path.{◌≡◌, refl, sym, ap, ap₂, ◌∙◌}
-use mathlib.Core.Bool.{true}
-use mathlib.Core.List.{List}
-use lib.ListN.{set}
-use lib.Dec.{eqb}
-use borrow.Author.Tests.{lt-ltb, le-ltb}
+use Rattle.std.proofs.Common.{ℕ, zero, suc, ◌+◌, ◌≤◌, ◌<◌, arith, ◌≡◌, refl, sym, ap, ap₂, ◌∙◌, true, List, set, eqb, lt-ltb, le-ltb}
 use Rattle.base.specs.Sums.{sum_to}
 use Rattle.base.specs.Least.{first_of}
 use Rattle.base.specs.Rows.{at, row}

@@ -1,8 +1,6 @@
 -- Further sentences of document 01 about answers: a refusal's passes and forced count, and that a plan and a
 -- list of the same tasks have one answer. Assumes nothing.
-use Prim.Native.Nat.{ℕ}
-use mathlib.Core.Path.{◌≡◌, refl, sym}
-use mathlib.Core.List.{List}
+use Rattle.std.proofs.Common.{ℕ, ◌≡◌, refl, sym, List}
 use Rattle.table.specs.Table.{LegalTable}
 use Rattle.table.specs.declared.Task.{Task}
 use Rattle.table.specs.declared.Table.{Table}

@@ -1,5 +1,7 @@
 // The planner by value, in stages: a plan is read, or a table is checked; there is room for its records; and
 // the legal table is answered. Document 01, "Testing and forcing" and "Numbered refusals".
+#![tactic(auto)]
+
 ghost use Rattle.std.specs.Prelude.{◌≡◌, ◌≤◌, replicate};
 ghost use Rattle.base.specs.Rows.{at};
 ghost use Rattle.table.specs.Table.{LegalTable};
@@ -16,7 +18,7 @@ use table::{Checked, Refusal, Table, Task};
 
 // One record of an answer: the task's flag, 1 if it was forced, and its bound, 0 for none.
 #[repr(C)]
-#[derive(Drop)]
+#[derive(Clone, Copy)]
 pub struct Record {
     pub flag: u32,
     pub forced: u32,
@@ -25,7 +27,7 @@ pub struct Record {
 
 // What is said of a legal table: a test's yes or no; forcing that accepts says yes, with its forced tasks and
 // passes.
-#[derive(Drop)]
+#[derive(Clone, Copy)]
 pub struct Verdict {
     pub yes: bool,
     pub forced: u32,
@@ -33,14 +35,14 @@ pub struct Verdict {
 }
 
 // A verdict, or a refusal with the passes that were made.
-#[derive(Drop)]
+#[derive(Clone, Copy)]
 pub enum Answer {
     Given(Verdict),
     Refused { why: Refusal, passes: u32 },
 }
 
 // An answer with its records beside it. The first count of them go to the caller's list, none if it refuses.
-#[derive(Drop)]
+#[derive(Clone, Copy)]
 pub struct Done {
     pub answer: Answer,
     pub count: usize,
@@ -49,7 +51,7 @@ pub struct Done {
 
 // An answer whose records are not listed yet: the first count of them have these flags, and the bounds in a
 // row beside it.
-#[derive(Drop)]
+#[derive(Clone, Copy)]
 pub struct Said {
     pub answer: Answer,
     pub count: usize,
@@ -57,7 +59,7 @@ pub struct Said {
 }
 
 // What is asked for.
-#[derive(Drop)]
+#[derive(Clone, Copy)]
 pub enum Job {
     Test,
     Force,

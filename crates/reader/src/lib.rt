@@ -1,4 +1,6 @@
 // Reading a plan: its front, and nothing after it.
+#![tactic(auto)]
+
 ghost use Rattle.std.specs.Prelude.{◌≡◌};
 ghost use Rattle.lines.specs.Reads.{refused, read_of};
 

@@ -1,4 +1,6 @@
 // The one line of a refused plan. Document 01, "The listing"; document 02, Wish 4.
+#![tactic(auto)]
+
 ghost use Rattle.std.specs.Prelude.{◌≡◌, ◌+◌, ◌≤◌, length};
 ghost use Rattle.buffer.specs.Put.{Put};
 ghost use Rattle.listing_lines.specs.Lines.{of_forcing, refusal_line};

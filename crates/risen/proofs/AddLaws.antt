@@ -1,10 +1,6 @@
 -- The loop that adds what is kept: the sums and the row after i places.
 -- Assumes nothing.
-use Prim.Native.Nat.{ℕ, zero, suc, ◌+◌, ◌-◌, ◌≤◌, ◌<◌}
-use native.Mathlib.Omega.{arith}
-use mathlib.Core.Path.{◌≡◌, refl, ap, ap₂, ◌∙◌}
-use mathlib.Core.List.{List}
-use lib.ListN.{set}
+use Rattle.std.proofs.Common.{ℕ, zero, suc, ◌+◌, ◌-◌, ◌≤◌, ◌<◌, arith, ◌≡◌, refl, ap, ap₂, ◌∙◌, List, set}
 use Rattle.base.specs.Rows.{at}
 use Rattle.base.specs.Sums.{sum_to}
 use Rattle.base.proofs.SumLaws.{sum_start, sum_step, sum_cap, sum_add, sum_same}

@@ -1,10 +1,7 @@
 -- The m largest rise: those that are kept at q are a choice of m at each later length, where each has grown
 -- up to its most.
 -- Assumes nothing.
-use Prim.Native.Nat.{ℕ, zero, suc, ◌+◌, ◌*◌, ◌-◌, ◌≤◌, ◌<◌, min}
-use native.Mathlib.Omega.{arith}
-use mathlib.Core.Path.{◌≡◌, ◌∙◌}
-use mathlib.Core.List.{List}
+use Rattle.std.proofs.Common.{ℕ, zero, suc, ◌+◌, ◌*◌, ◌-◌, ◌≤◌, ◌<◌, min, arith, ◌≡◌, ◌∙◌, List}
 use Rattle.base.specs.Rows.{at}
 use Rattle.base.specs.Sums.{sum_to, top_to}
 use Rattle.base.proofs.SumLaws.{sum_mono, sum_add, sum_same, top_same, top_cap}

@@ -1,8 +1,6 @@
 -- Any two sums that the promise of `add_risen` allows are equal.
 -- Assumes nothing.
-use Prim.Native.Nat.{ℕ}
-use mathlib.Core.Path.{◌≡◌}
-use mathlib.Core.List.{List}
+use Rattle.std.proofs.Common.{ℕ, ◌≡◌, List}
 use Rattle.base.proofs.Unique.{only}
 use Rattle.shares.specs.declared.Whole.{Whole}
 use Rattle.risen.specs.Risen.{Risen}

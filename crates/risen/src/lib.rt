@@ -2,6 +2,8 @@
 // to grow by. Plain rows, as in a search.
 //
 // Place i puts up min(most_i, q - wait_i), nothing before q is past wait_i.
+#![tactic(auto)]
+
 ghost use Rattle.std.specs.Prelude.{◌≡◌, ℕ, ◌≤◌, ◌<◌, length};
 ghost use Rattle.base.specs.Rows.{at};
 ghost use Rattle.risen.specs.Risen.{risen_at, more_of, Addable, Added, Risable, Risen};

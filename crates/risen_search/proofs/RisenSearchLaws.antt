@@ -1,10 +1,7 @@
 -- The climb for the shares with the m largest of what rises: a q at which the shares alone are too many is
 -- not enough, and the sum grows as its shares and what is kept must.
 -- Assumes nothing.
-use Prim.Native.Nat.{ℕ, ◌+◌, ◌≤◌}
-use native.Mathlib.Omega.{arith}
-use mathlib.Core.Path.{◌≡◌}
-use mathlib.Core.List.{List}
+use Rattle.std.proofs.Common.{ℕ, ◌+◌, ◌≤◌, arith, ◌≡◌, List}
 use Rattle.base.specs.Rows.{at}
 use Rattle.base.specs.Sums.{top_to}
 use Rattle.base.proofs.SumLaws.{sum_cap, top_cap}

@@ -1,5 +1,7 @@
 // The search for the least q at which the shares of all places and the m largest of numbers that rise with q
 // sum to less than m × q. It goes on from a q below which the shares alone are too many.
+#![tactic(auto)]
+
 ghost use Rattle.std.specs.Prelude.{◌≡◌, ◌≤◌};
 ghost use Rattle.search.specs.Search.{Searchable, NoneBelow};
 ghost use Rattle.risen_search.specs.Search.{least_risen, SmallMost};

@@ -1,7 +1,5 @@
 -- The stages of the table as changed under edition 2, over plain values. Assumes nothing.
-use Prim.Native.Nat.{ℕ}
-use mathlib.Core.Path.{◌≡◌, refl, subst, ◌∙◌}
-use mathlib.Core.List.{List}
+use Rattle.std.proofs.Common.{ℕ, ◌≡◌, refl, subst, ◌∙◌, List}
 use Rattle.table.specs.declared.Refusal.{Refusal}
 use Rattle.table.specs.declared.Checked.TheVariants.{Fine, Refused as Faulty}
 use Rattle.lines.specs.Reads.{read_of}

@@ -1,9 +1,6 @@
 -- The table as changed under edition 2, over its promise: a text and the text raised have one answer, and one
 -- buffer then (document 02, Wish 6). Assumes nothing.
-use Prim.Native.Nat.{ℕ}
-use mathlib.Core.Path.{◌≡◌, sym, subst}
-use mathlib.Core.Logic.{◌↔◌}
-use mathlib.Core.List.{List}
+use Rattle.std.proofs.Common.{ℕ, ◌≡◌, sym, subst, ◌↔◌, List}
 use Rattle.frames.specs.Digits.{raised}
 use Rattle.lines.specs.declared.Reading.{Reading}
 use Rattle.lines.specs.Reads.{read_of}

@@ -1,5 +1,7 @@
 // The table as changed under edition 2: a plan text is forced, and the plan of the sent table with the flags
 // at the end of forcing is written into a buffer. Document 02, Wishes 1 and 4.
+#![tactic(auto)]
+
 ghost use Rattle.round_changer.specs.RoundChanged.{ChangedAs2};
 
 use changer::Changed;

@@ -1,8 +1,6 @@
 -- The test and forcing of the rows and flags of a legal table are those of the table.
 -- Assumes nothing.
-use Prim.Native.Nat.{ℕ}
-use mathlib.Core.Path.{◌≡◌, ap, ◌∙◌}
-use mathlib.Core.List.{List}
+use Rattle.std.proofs.Common.{ℕ, ◌≡◌, ap, ◌∙◌, List}
 use Rattle.base.specs.Rows.{at}
 use Rattle.rounds.specs.Rounds.{test2}
 use Rattle.rounds.specs.Forcing.{force2}

@@ -1,4 +1,6 @@
 // Forcing of edition 2, over the rows of a table.
+#![tactic(auto)]
+
 ghost use Rattle.std.specs.Prelude.{◌≡◌, ◌≤◌};
 ghost use Rattle.flags.specs.Flags.{flag_in, held};
 ghost use Rattle.rows.specs.Held.{system_in, LegalRows};
@@ -10,7 +12,7 @@ use rows::Head;
 
 // Where forcing ends: the final flags, how many tests there were, how many rounds the last of them had, and
 // the number of the lowest task without a bound in it, 0 for none.
-#[derive(Drop)]
+#[derive(Clone, Copy)]
 pub struct Forced2 {
     pub flags: Flags,
     pub passes: u32,

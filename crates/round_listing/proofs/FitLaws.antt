@@ -1,10 +1,6 @@
 -- The listings of a legal table under edition 2 fit in 2,048 bytes: those of edition 1's words in 1,920, and
 -- 17 more for the rounds, of which there are at most 31,999,969. Assumes nothing.
-use Prim.Native.Nat.{ℕ, ◌≤◌, ◌<◌}
-use native.Mathlib.Omega.{arith}
-use mathlib.Core.Path.{◌≡◌}
-use mathlib.Core.List.{List}
-use lib.ListN.{length}
+use Rattle.std.proofs.Common.{ℕ, ◌≤◌, ◌<◌, arith, ◌≡◌, List, length}
 use Rattle.base.specs.Rows.{at}
 use Rattle.base.proofs.SumLaws.{sum_cap}
 use Rattle.model.specs.Bound.{Legal, under}

@@ -1,7 +1,5 @@
 -- The ways through the writing of a listing under edition 2: which text each answer has. Assumes nothing.
-use Prim.Native.Nat.{ℕ}
-use mathlib.Core.Path.{◌≡◌, ◌∙◌}
-use mathlib.Core.List.{List}
+use Rattle.std.proofs.Common.{ℕ, ◌≡◌, ◌∙◌, List}
 use Rattle.table.specs.declared.Refusal.{Refusal}
 use Rattle.table.specs.declared.Checked.TheVariants.{Fine, Refused as Faulty}
 use Rattle.lines.specs.Reads.{read_of}

@@ -5,10 +5,7 @@
 --   a raised text has the text's listings (Wish 6)                       listing_2_raised, test_2_raised
 --
 -- Assumes nothing.
-use Prim.Native.Nat.{ℕ}
-use mathlib.Core.Path.{◌≡◌}
-use mathlib.Core.List.{List}
-use lib.ListN.{take}
+use Rattle.std.proofs.Common.{ℕ, ◌≡◌, List, take}
 use Rattle.base.proofs.Unique.{OnlyWith}
 use Rattle.frames.specs.Digits.{raised}
 use Rattle.lines.proofs.Theorems.{reading_settled}

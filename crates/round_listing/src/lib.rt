@@ -1,5 +1,7 @@
 // The listings under edition 2, into a buffer that the caller lends: those of edition 1, and the last line
 // gains the round count of the last test. Document 02, Wish 4.
+#![tactic(auto)]
+
 ghost use Rattle.std.specs.Prelude.{◌+◌, ◌-◌, ◌<◌, ◌≤◌, length};
 ghost use Rattle.buffer.specs.Put.{Put};
 ghost use Rattle.listing.specs.Listing.{ListedAs, answer_text};

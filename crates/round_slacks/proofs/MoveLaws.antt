@@ -1,10 +1,6 @@
 -- The loops of one round: a row that is filled again, and the slacks that are moved in place.
 -- Assumes nothing.
-use Prim.Native.Nat.{ℕ, zero, suc, ◌+◌, ◌-◌, ◌≤◌, ◌<◌}
-use native.Mathlib.Omega.{arith}
-use mathlib.Core.Path.{◌≡◌, refl, sym, ap, ap₂, ◌∙◌}
-use mathlib.Core.List.{List}
-use lib.ListN.{length, set, replicate}
+use Rattle.std.proofs.Common.{ℕ, zero, suc, ◌+◌, ◌-◌, ◌≤◌, ◌<◌, arith, ◌≡◌, refl, sym, ap, ap₂, ◌∙◌, List, length, set, replicate}
 use Rattle.base.specs.Rows.{at, row}
 use Rattle.base.proofs.OrderLaws.{below_next}
 use Rattle.base.proofs.RowLaws.{row_length, row_at, row_past, row_is, row_same, fill_start}

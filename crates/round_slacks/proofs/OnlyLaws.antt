@@ -1,15 +1,8 @@
 -- Of n places the one where a number is not 0: each step of the loop that looks for it, and what it says of
 -- all.
 -- Assumes nothing.
-use Prim.Native.Nat.{ℕ, zero, suc, ◌+◌, ◌≤◌, ◌<◌}
-use native.Mathlib.Omega.{arith}
-use native.Mathlib.Nat.{eq-or-lt_of_le}
-use native.Mathlib.Numerals.{add-one}
-use mathlib.Core.Path.{◌≡◌, refl, ap, ap₂, ◌∙◌}
-use mathlib.Core.Bool.{Bool, true, false}
-use mathlib.Core.Logic.{⊎_elim}
-use lib.Dec.{eqb}
-use borrow.Author.Tests.{eq-eqb, ne_eqb, eqb-true, eqb-false}
+use Rattle.std.proofs.Common.{ℕ, zero, suc, ◌+◌, ◌≤◌, ◌<◌, arith, eq-or-lt_of_le, add-one, ◌≡◌, refl, ap, ap₂, ◌∙◌, Bool, true, false, ⊎_elim, eqb, eq-eqb, ne_eqb, eqb-true}
+use borrow.Author.Tests.{eqb-false}
 use Rattle.base.specs.Choice.{pick, or_else}
 use Rattle.base.specs.Sums.{sum_to}
 use Rattle.base.proofs.SumLaws.{sum_part}

@@ -1,8 +1,6 @@
 -- Any two rows and results that the promise of a public function of this crate allows are equal.
 -- Assumes nothing.
-use Prim.Native.Nat.{ℕ, ◌-◌}
-use mathlib.Core.Path.{◌≡◌, sym, ap, ◌∙◌}
-use mathlib.Core.List.{List}
+use Rattle.std.proofs.Common.{ℕ, ◌-◌, ◌≡◌, sym, ap, ◌∙◌, List}
 use Rattle.base.specs.Rows.{at, row}
 use Rattle.base.proofs.Unique.{only, Only}
 use Rattle.flags.specs.Flags.{changed}

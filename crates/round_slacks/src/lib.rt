@@ -1,4 +1,6 @@
 // The slacks after one round, in two rows: S, and what it leaves of D - C.
+#![tactic(auto)]
+
 ghost use Rattle.std.specs.Prelude.{◌≡◌, ◌≤◌, ◌<◌};
 ghost use Rattle.base.specs.Rows.{at, row};
 ghost use Rattle.rounds.specs.Rounds.{slack_after};

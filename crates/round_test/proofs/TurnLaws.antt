@@ -1,11 +1,8 @@
 -- The loop of rounds over rows: what it knows before a round is what the mathematics' loop knows of the list
 -- that its flags hold, so that it ends where the test does.
 -- Assumes nothing.
-use Prim.Native.Nat.{ℕ, ◌+◌, ◌*◌, ◌-◌, ◌≤◌, ◌<◌}
-use native.Mathlib.Omega.{arith}
-use mathlib.Core.Path.{◌≡◌, refl, sym, ap, ◌∙◌}
-use mathlib.Core.List.{List}
-use lib.ListN.{replicate, get_or-replicate}
+use Rattle.std.proofs.Common.{ℕ, ◌+◌, ◌*◌, ◌-◌, ◌≤◌, ◌<◌, arith, ◌≡◌, refl, sym, ap, ◌∙◌, List, replicate}
+use Rattle.std.proofs.Math.ListN.{get_or-replicate}
 use Rattle.base.specs.Sums.{sum_to}
 use Rattle.base.specs.Rows.{at, row}
 use Rattle.base.proofs.SumLaws.{sum_cap}

@@ -1,8 +1,6 @@
 -- Any two rows and round counts that the promise of `test_rounds` allows are equal.
 -- Assumes nothing.
-use Prim.Native.Nat.{ℕ}
-use mathlib.Core.Path.{◌≡◌}
-use mathlib.Core.List.{List}
+use Rattle.std.proofs.Common.{ℕ, ◌≡◌, List}
 use Rattle.base.proofs.Unique.{only}
 use Rattle.model.specs.Bound.{System}
 use Rattle.flags.specs.declared.Flags.{Flags}

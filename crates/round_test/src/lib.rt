@@ -1,5 +1,7 @@
 // The test of edition 2 over the rows of a table: rounds until no slack changes. Slacks stand in two rows, S
 // and what it leaves of D - C.
+#![tactic(auto)]
+
 ghost use Rattle.std.specs.Prelude.{◌≡◌};
 ghost use Rattle.base.specs.Rows.{at, row};
 ghost use Rattle.model.specs.Bound.{under, bound};

@@ -1,6 +1,6 @@
 -- Every case of specs/Cases: antt computes both answers.
 -- Assumes nothing.
-use lib.Dec.{T}
+use Rattle.std.proofs.Common.{T}
 use Rattle.base.specs.Sums.{sum_to, top_to}
 use Rattle.base.specs.Least.{least, first_from}
 use Rattle.base.specs.Rows.{list_from}

@@ -2,15 +2,7 @@
 -- rounds, and there are at most n + 1 rounds. So it is under FP by places where all tasks are of one kind;
 -- many rounds need EDF, or tasks of both kinds.
 -- Assumes nothing.
-use Prim.Native.Nat.{ℕ, zero, suc, ◌+◌, ◌-◌, ◌≤◌, ◌<◌}
-use native.Mathlib.Omega.{arith}
-use native.Mathlib.Nat.{eq-zero-or-pos}
-use mathlib.Core.Path.{◌≡◌, refl, sym, ap, ◌∙◌}
-use mathlib.Core.Logic.{⊎_elim}
-use mathlib.Core.Bool.{Bool, true, false}
-use mathlib.Core.List.{List}
-use lib.Dec.{eqb}
-use borrow.Author.Tests.{ne_eqb}
+use Rattle.std.proofs.Common.{ℕ, zero, suc, ◌+◌, ◌-◌, ◌≤◌, ◌<◌, arith, eq-zero-or-pos, ◌≡◌, refl, sym, ap, ◌∙◌, ⊎_elim, Bool, true, false, List, eqb, ne_eqb}
 use Rattle.base.specs.Choice.{pick}
 use Rattle.base.specs.Rows.{at}
 use Rattle.base.proofs.OrderLaws.{le_or_lt}

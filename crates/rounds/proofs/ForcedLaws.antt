@@ -1,12 +1,7 @@
 -- All passes, as document 02 describes them: the definition's are such passes (`forced_is`), and any such
 -- passes end with its flags, bounds, round count and number (`forced_only`).
 -- Assumes nothing.
-use Prim.Native.Nat.{ℕ, zero, suc, ◌+◌, ◌≤◌, ◌<◌}
-use native.Mathlib.Omega.{arith}
-use native.Mathlib.Nat.{eq-zero-or-pos}
-use mathlib.Core.Path.{◌≡◌, refl, sym, subst}
-use mathlib.Core.Logic.{inl, inr, ⊎_elim}
-use mathlib.Core.List.{List}
+use Rattle.std.proofs.Common.{ℕ, zero, suc, ◌+◌, ◌≤◌, ◌<◌, arith, eq-zero-or-pos, ◌≡◌, refl, sym, subst, inl, inr, ⊎_elim, List}
 use Rattle.base.specs.Sums.{sum_to}
 use Rattle.base.specs.Rows.{at}
 use Rattle.base.proofs.SumLaws.{sum_part}

@@ -1,10 +1,7 @@
 -- Rounds and forcing read a system by its bounds under slacks and by D and C alone: where two systems agree
 -- on these, they end the same way.
 -- Assumes nothing.
-use Prim.Native.Nat.{ℕ, zero, suc, ◌-◌, ◌<◌}
-use mathlib.Core.Path.{◌≡◌, refl, ap, ap₂, ◌∙◌}
-use mathlib.Core.List.{List}
-use lib.Dec.{eqb}
+use Rattle.std.proofs.Common.{ℕ, zero, suc, ◌-◌, ◌<◌, ◌≡◌, refl, ap, ap₂, ◌∙◌, List, eqb}
 use Rattle.base.specs.Choice.{pick, or_else}
 use Rattle.base.specs.Sums.{sum_to}
 use Rattle.base.specs.Rows.{at, list_of}

@@ -2,10 +2,7 @@
 -- From the slacks at hand the rounds end as they do from the start (`same`); every slack is earned; and no
 -- more rounds have been begun than there is slack, and one (`small`).
 -- Assumes nothing.
-use Prim.Native.Nat.{ℕ, zero, suc, ◌+◌, ◌≤◌, ◌<◌}
-use native.Mathlib.Omega.{arith}
-use mathlib.Core.Path.{◌≡◌, refl, sym, ap, ◌∙◌}
-use mathlib.Core.List.{List}
+use Rattle.std.proofs.Common.{ℕ, zero, suc, ◌+◌, ◌≤◌, ◌<◌, arith, ◌≡◌, refl, sym, ap, ◌∙◌, List}
 use Rattle.base.specs.Sums.{sum_to}
 use Rattle.base.specs.Rows.{at}
 use Rattle.base.proofs.SumLaws.{sum_same}

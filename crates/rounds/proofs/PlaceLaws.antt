@@ -1,15 +1,7 @@
 -- The two places that forcing looks for: the lowest task without a bound, and the lowest preemptive one.
 -- What their numbers say, and what 0 says.
 -- Assumes nothing.
-use Prim.Native.Nat.{ℕ, ◌-◌, ◌<◌}
-use native.Mathlib.Omega.{arith}
-use native.Mathlib.Nat.{eq-zero-or-pos}
-use mathlib.Core.Path.{◌≡◌, sym, ap}
-use mathlib.Core.Logic.{⊎_elim}
-use mathlib.Core.Bool.{Bool}
-use mathlib.Core.List.{List}
-use lib.Dec.{ltb, eqb}
-use borrow.Author.Tests.{ltb-true, ltb-false, le-ltb}
+use Rattle.std.proofs.Common.{ℕ, ◌-◌, ◌<◌, arith, eq-zero-or-pos, ◌≡◌, sym, ap, ⊎_elim, Bool, List, ltb, eqb, ltb-true, ltb-false, le-ltb}
 use Rattle.base.specs.Rows.{at}
 use Rattle.base.proofs.FirstLaws.{First, first_none, none_first, is_first, first_same}
 use Rattle.model.specs.Bound.{System}

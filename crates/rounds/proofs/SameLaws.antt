@@ -1,10 +1,7 @@
 -- Only the table's own places count: flags, slacks and bounds may be held in longer lists, as code holds
 -- them.
 -- Assumes nothing.
-use Prim.Native.Nat.{ℕ, zero, suc}
-use mathlib.Core.Path.{◌≡◌, refl, sym, ap, ap₂, ◌∙◌}
-use mathlib.Core.List.{List}
-use lib.Dec.{eqb}
+use Rattle.std.proofs.Common.{ℕ, zero, suc, ◌≡◌, refl, sym, ap, ap₂, ◌∙◌, List, eqb}
 use Rattle.base.specs.Choice.{pick, or_else}
 use Rattle.base.specs.Rows.{at}
 use Rattle.base.proofs.SumLaws.{sum_same}

@@ -4,14 +4,8 @@
 -- where no round count is given out; and rounds whose slacks are known are counted without being worked out
 -- (`rounds_skip`).
 -- Assumes nothing.
-use Prim.Native.Nat.{ℕ, zero, suc, ◌+◌, ◌-◌, ◌≤◌, ◌<◌}
-use native.Mathlib.Omega.{arith}
-use native.Mathlib.Nat.{le_refl, le_trans, le_of_eq, le_antisymm, eq-zero-or-pos}
-use mathlib.Core.Path.{◌≡◌, refl, sym, ap, ap₂, ◌∙◌, subst}
-use mathlib.Core.Logic.{◌⊎◌, ⊎_elim}
-use mathlib.Core.Bool.{false}
-use mathlib.Core.List.{List}
-use borrow.Author.Tests.{leb-false, lt-leb}
+use Rattle.std.proofs.Common.{ℕ, zero, suc, ◌+◌, ◌-◌, ◌≤◌, ◌<◌, arith, le_refl, le_trans, le_of_eq, le_antisymm, eq-zero-or-pos, ◌≡◌, refl, sym, ap, ap₂, ◌∙◌, subst, ◌⊎◌, ⊎_elim, false, List, leb-false}
+use borrow.Author.Tests.{lt-leb}
 use Rattle.base.specs.Least.{NoWorse}
 use Rattle.base.specs.Rows.{at}
 use Rattle.base.proofs.LeastLaws.{no_worse_both}

@@ -3,12 +3,7 @@
 -- schedule under the slacks at the start of that round; the bounds fit under them, because they were
 -- earned.
 -- Assumes nothing.
-use Prim.Native.Nat.{ℕ, ◌<◌}
-use native.Mathlib.Omega.{arith}
-use native.Mathlib.Nat.{eq-zero-or-pos}
-use mathlib.Core.Path.{sym, subst}
-use mathlib.Core.Logic.{⊎_elim}
-use mathlib.Core.List.{List}
+use Rattle.std.proofs.Common.{ℕ, ◌<◌, arith, eq-zero-or-pos, sym, subst, ⊎_elim, List}
 use Rattle.base.specs.Rows.{at}
 use Rattle.model.specs.Bound.{System, Legal, under, bound}
 use Rattle.model.proofs.BoundLaws.{bound_range}

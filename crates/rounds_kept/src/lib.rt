@@ -1,2 +1,4 @@
 // What a pass of edition 2 means for schedules.
 // Definitions and laws only: this crate has no function.
+
+#![tactic(auto)]

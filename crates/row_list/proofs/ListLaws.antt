@@ -1,13 +1,7 @@
 -- A flat table into rows, task by task: what is known before each task, and what is answered at each way out.
 -- What the checks say is said by `CheckLaws` of table, what is in the rows by `LoadLaws` of loading.
 -- Assumes nothing.
-use Prim.Native.Nat.{ℕ, ◌+◌, ◌≤◌, ◌<◌, min}
-use native.Mathlib.Omega.{arith}
-use mathlib.Core.Path.{◌≡◌, sym, ap, ◌∙◌}
-use mathlib.Core.Bool.{Bool}
-use mathlib.Core.List.{List}
-use lib.Dec.{eqb}
-use lib.ListN.{length, replicate}
+use Rattle.std.proofs.Common.{ℕ, ◌+◌, ◌≤◌, ◌<◌, min, arith, ◌≡◌, sym, ap, ◌∙◌, Bool, List, eqb, length, replicate}
 use Rattle.base.specs.Choice.{pick}
 use Rattle.base.proofs.RowLaws.{row_at}
 use Rattle.table.specs.declared.Task.{Task}

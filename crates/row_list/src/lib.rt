@@ -1,4 +1,6 @@
 // A flat table of numbers into rows and flags: the checks 5 to 11 and 17 task by task, with no table between.
+#![tactic(auto)]
+
 ghost use Rattle.rows.specs.Held.{EmptyRows};
 ghost use Rattle.row_list.specs.ListLoaded.{ListLoaded};
 

@@ -1,4 +1,6 @@
 // Reading a plan into rows and flags: line by line as `front_reader` and `reader` do, with no table between.
+#![tactic(auto)]
+
 ghost use Rattle.std.specs.Prelude.{◌≡◌};
 ghost use Rattle.frames.specs.Digits.{digit_table};
 ghost use Rattle.lines.specs.Fields.{empty_table};

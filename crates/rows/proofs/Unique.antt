@@ -1,9 +1,7 @@
 -- Any two results that the promise of a public function of this crate allows are equal; of `rows_of`, the
 -- head and the rows too.
 -- Assumes nothing.
-use Prim.Native.Nat.{ℕ}
-use mathlib.Core.Path.{◌≡◌, refl}
-use mathlib.Core.List.{List}
+use Rattle.std.proofs.Common.{ℕ, ◌≡◌, refl, List}
 use Rattle.base.proofs.Unique.{only, Only}
 use Rattle.table.specs.declared.Table.{Table}
 use Rattle.rows.specs.declared.Head.{Head}

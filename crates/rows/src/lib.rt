@@ -1,4 +1,6 @@
 // A table in rows: what the searches need of each task, worked out once for a table and lent to each search.
+#![tactic(auto)]
+
 ghost use Rattle.std.specs.Prelude.{◌≡◌, ◌≤◌, ◌<◌};
 ghost use Rattle.table.specs.Table.{LegalTable};
 ghost use Rattle.rows.specs.Levels.{level_in, with_level, higher_at};
@@ -7,7 +9,7 @@ ghost use Rattle.rows.specs.Held.{EmptyRows, RowsOf};
 use table::Table;
 
 // The level of each task, by place: 1 is the highest.
-#[derive(Drop)]
+#[derive(Clone, Copy)]
 pub struct Levels {
     of: [u8; 32],
 }
@@ -16,7 +18,7 @@ pub struct Levels {
 pub const NO_LEVELS: Levels = Levels { of: [0u8; 32] };
 
 // What a table says besides its tasks.
-#[derive(Drop)]
+#[derive(Clone, Copy)]
 pub struct Head {
     pub policy: u32,
     pub cores: u32,

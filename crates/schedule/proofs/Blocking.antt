@@ -3,14 +3,8 @@
 -- are at most cores of them, each has C - 1 quanta left at most, and no other job of its task executes in the
 -- window.
 -- Assumes nothing.
-use Prim.Native.Nat.{ℕ, zero, suc, ◌+◌, ◌*◌, ◌-◌, ◌≤◌, ◌<◌}
-use native.Mathlib.Omega.{arith}
-use native.Mathlib.Nat.{eq-or-lt_of_le, eq-zero-or-pos, le_trans}
-use mathlib.Core.Path.{◌≡◌, refl, sym, ap, ◌∙◌}
-use mathlib.Core.Bool.{Bool, true, false}
-use mathlib.Core.Logic.{⊎_elim}
-use lib.Dec.{ltb}
-use borrow.Author.Tests.{ltb-true, lt-ltb, not_true}
+use Rattle.std.proofs.Common.{ℕ, zero, suc, ◌+◌, ◌*◌, ◌-◌, ◌≤◌, ◌<◌, arith, eq-or-lt_of_le, eq-zero-or-pos, le_trans, ◌≡◌, refl, sym, ap, ◌∙◌, Bool, true, false, ⊎_elim, ltb, ltb-true, lt-ltb}
+use borrow.Author.Tests.{not_true}
 use Rattle.base.specs.Sums.{sum_to}
 use Rattle.base.specs.Choice.{pick}
 use Rattle.model.specs.Bound.{Policy, EDF, FP, System}

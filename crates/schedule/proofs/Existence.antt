@@ -1,14 +1,9 @@
 -- A schedule that follows the rules exists for every legal table, flags, policy, levels, releases and needs:
 -- the greedy one, each rule being one law of its quantum.
 -- Assumes nothing.
-use Prim.Native.Nat.{ℕ, zero, suc, ◌+◌, ◌*◌, ◌/◌, ◌%◌, ◌≤◌, ◌<◌}
-use native.Mathlib.Omega.{arith}
-use native.Mathlib.Nat.{eq-or-lt_of_le, mul-add-mod_self_right, mod-eq_of_lt, add-mul-div_right, div-eq_of_lt}
-use mathlib.Core.Path.{◌≡◌, sym, ap, ap₂, ◌∙◌}
-use mathlib.Core.Bool.{Bool, true, false}
-use mathlib.Core.Logic.{⊎_elim}
-use lib.Dec.{ltb, leb}
-use borrow.Author.Tests.{ltb-true, ltb-false, leb-false, not_true}
+use Rattle.std.proofs.Common.{ℕ, zero, suc, ◌+◌, ◌*◌, ◌/◌, ◌%◌, ◌≤◌, ◌<◌, arith, eq-or-lt_of_le, mod-eq_of_lt, ◌≡◌, sym, ap, ap₂, ◌∙◌, Bool, true, false, ⊎_elim, ltb, leb, ltb-true, ltb-false, leb-false}
+use Rattle.std.proofs.Math.Nat.{mul-add-mod_self_right, add-mul-div_right, div-eq_of_lt}
+use borrow.Author.Tests.{not_true}
 use Rattle.base.specs.Sums.{sum_to}
 use Rattle.model.specs.Bound.{Policy, EDF, FP, System, Legal}
 use Rattle.schedule.specs.Schedule.{Run, done, busy, Pending, lower, lower_by, Basic, Follows}

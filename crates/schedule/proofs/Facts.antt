@@ -3,12 +3,7 @@
 -- quanta. `Base` is what the proof of the theorem uses of a table and of its rules: of A5 only that a lower
 -- job is non-preemptive, so that it serves the weaker rule of OneByOne as well.
 -- Assumes nothing.
-use Prim.Native.Nat.{ℕ, zero, suc, ◌+◌, ◌≤◌, ◌<◌}
-use native.Mathlib.Omega.{arith}
-use native.Mathlib.Nat.{eq-or-lt_of_le, eq-zero-or-pos}
-use mathlib.Core.Path.{◌≡◌, refl}
-use mathlib.Core.Bool.{true}
-use mathlib.Core.Logic.{⊎_elim}
+use Rattle.std.proofs.Common.{ℕ, zero, suc, ◌+◌, ◌≤◌, ◌<◌, arith, eq-or-lt_of_le, eq-zero-or-pos, ◌≡◌, refl, true, ⊎_elim}
 use Rattle.base.specs.Sums.{sum_to}
 use Rattle.model.specs.Bound.{System}
 use Rattle.base.proofs.OrderLaws.{le_or_lt}

@@ -3,11 +3,7 @@
 -- what it has executed before t is had t p, and it executes at t where it is among the best by its key. Here
 -- are the laws of one quantum.
 -- Assumes nothing.
-use Prim.Native.Nat.{ℕ, zero, suc, ◌+◌, ◌*◌, ◌-◌, ◌/◌, ◌%◌, ◌≤◌, ◌<◌, min}
-use native.Mathlib.Omega.{arith}
-use native.Mathlib.Nat.{eq-zero-or-pos, le_trans, div-lt_iff_lt-mul, mod-lt}
-use mathlib.Core.Path.{◌≡◌, refl, ap}
-use mathlib.Core.Logic.{⊎_elim}
+use Rattle.std.proofs.Common.{ℕ, zero, suc, ◌+◌, ◌*◌, ◌-◌, ◌/◌, ◌%◌, ◌≤◌, ◌<◌, min, arith, eq-zero-or-pos, le_trans, div-lt_iff_lt-mul, mod-lt, ◌≡◌, refl, ap, ⊎_elim}
 use Rattle.base.specs.Sums.{sum_to}
 use Rattle.model.specs.Bound.{Policy, EDF, FP, System, Legal}
 use Rattle.base.proofs.SumLaws.{sum_mono, sum_part}

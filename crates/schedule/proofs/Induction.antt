@@ -2,11 +2,7 @@
 -- within it. So before the end of its own bound an unfinished job would be a suspect, and the line of its
 -- task shows that there is none. Tasks without a bound may stand in the table if their jobs need nothing.
 -- Assumes nothing.
-use Prim.Native.Nat.{ℕ, zero, suc, ◌+◌, ◌-◌, ◌≤◌, ◌<◌}
-use native.Mathlib.Omega.{arith}
-use native.Mathlib.Nat.{le_trans}
-use mathlib.Core.Path.{◌≡◌, refl, ap}
-use mathlib.Core.Logic.{◌⊎◌, ⊎_elim}
+use Rattle.std.proofs.Common.{ℕ, zero, suc, ◌+◌, ◌-◌, ◌≤◌, ◌<◌, arith, le_trans, ◌≡◌, refl, ap, ◌⊎◌, ⊎_elim}
 use Rattle.model.specs.Bound.{System, least_length, bound}
 use Rattle.base.proofs.OrderLaws.{le_or_lt}
 use Rattle.schedule.specs.Schedule.{Run, done}

@@ -1,12 +1,7 @@
 -- A bound says nothing where another task has none, under either policy: the pair of Example, by computing.
 -- Its second task has the bound 3, and a job of it takes 4 quanta.
 -- Assumes nothing.
-use Prim.Native.Nat.{◌+◌, ◌*◌, ◌≤◌, ◌<◌}
-use native.Mathlib.Omega.{arith}
-use mathlib.Core.Path.{◌≡◌, refl, ap}
-use mathlib.Core.Bool.{false}
-use mathlib.Core.List.{[], ◌∷◌}
-use lib.ListN.{get_or}
+use Rattle.std.proofs.Common.{◌+◌, ◌*◌, ◌≤◌, ◌<◌, arith, ◌≡◌, refl, ap, false, [], ◌∷◌, get_or}
 use Rattle.base.specs.Sums.{sum_to, top_to}
 use Rattle.base.specs.Least.{least}
 use Rattle.model.specs.Bound.{

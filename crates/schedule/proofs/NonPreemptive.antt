@@ -3,12 +3,7 @@
 -- tasks use of it is covered by their shares and, for at most cores of them, their blocking: against the line
 -- of l.
 -- Assumes nothing.
-use Prim.Native.Nat.{ℕ, zero, suc, ◌+◌, ◌*◌, ◌-◌, ◌≤◌, ◌<◌}
-use native.Mathlib.Omega.{arith}
-use native.Mathlib.Nat.{eq-zero-or-pos, le_trans}
-use mathlib.Core.Path.{◌≡◌, refl, ap}
-use mathlib.Core.Logic.{◌⊎◌, inl, inr, ⊎_elim}
-use lib.Dec.{ltb}
+use Rattle.std.proofs.Common.{ℕ, zero, suc, ◌+◌, ◌*◌, ◌-◌, ◌≤◌, ◌<◌, arith, eq-zero-or-pos, le_trans, ◌≡◌, refl, ap, ◌⊎◌, inl, inr, ⊎_elim, ltb}
 use Rattle.base.specs.Sums.{sum_to}
 use Rattle.model.specs.Bound.{System, W, E, share_of, block_of, B}
 use Rattle.base.proofs.OrderLaws.{le_or_lt}

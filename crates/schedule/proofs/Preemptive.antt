@@ -2,10 +2,7 @@
 -- quanta of the window, so it waits in l - C + 1 of them at least. The first l - C + 1 of these are covered
 -- by the shares: against the line of l.
 -- Assumes nothing.
-use Prim.Native.Nat.{ℕ, ◌+◌, ◌-◌, ◌≤◌, ◌<◌}
-use native.Mathlib.Omega.{arith}
-use mathlib.Core.Path.{◌≡◌, ap}
-use mathlib.Core.Logic.{⊎_elim}
+use Rattle.std.proofs.Common.{ℕ, ◌+◌, ◌-◌, ◌≤◌, ◌<◌, arith, ◌≡◌, ap, ⊎_elim}
 use Rattle.base.specs.Sums.{sum_to}
 use Rattle.model.specs.Bound.{System, W, E, cap, share_of, B}
 use Rattle.schedule.specs.Schedule.{Run}

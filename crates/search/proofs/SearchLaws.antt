@@ -1,11 +1,7 @@
 -- The climb for the sum of the shares alone: it grows at least as its shares must.
 -- Assumes nothing.
-use Prim.Native.Nat.{ℕ, ◌+◌, ◌≤◌, ◌<◌, min}
-use native.Mathlib.Omega.{arith}
-use native.Mathlib.Nat.{mul-le-mul}
-use mathlib.Core.Path.{◌≡◌}
-use mathlib.Core.List.{List}
-use lib.ListN.{length, replicate, length-replicate}
+use Rattle.std.proofs.Common.{ℕ, ◌+◌, ◌≤◌, ◌<◌, min, arith, mul-le-mul, ◌≡◌, List, length, replicate}
+use Rattle.std.proofs.Math.ListN.{length-replicate}
 use Rattle.base.specs.Rows.{at}
 use Rattle.base.specs.Sums.{sum_to}
 use Rattle.base.proofs.SumLaws.{sum_mono, sum_add, sum_same, sum_cap}

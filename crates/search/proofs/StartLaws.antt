@@ -1,13 +1,7 @@
 -- Where a search begins: with fewer shares than cores q = 1 is enough; else no q is before the jump from
 -- q = 0, where a share of min(C, cap, q) at least is sure.
 -- Assumes nothing.
-use Prim.Native.Nat.{ℕ, ◌+◌, ◌*◌, ◌-◌, ◌≤◌, ◌<◌, min}
-use native.Mathlib.Omega.{arith}
-use mathlib.Core.Path.{◌≡◌, sym, ap, ◌∙◌}
-use mathlib.Core.List.{List}
-use lib.Dec.{ltb}
-use lib.ListN.{replicate, set}
-use borrow.Author.Tests.{lt-ltb}
+use Rattle.std.proofs.Common.{ℕ, ◌+◌, ◌*◌, ◌-◌, ◌≤◌, ◌<◌, min, arith, ◌≡◌, sym, ap, ◌∙◌, List, ltb, replicate, set, lt-ltb}
 use Rattle.base.specs.Rows.{at, row}
 use Rattle.base.specs.Sums.{sum_to}
 use Rattle.base.proofs.RowLaws.{fill_start, fill_step, row_at}

@@ -3,6 +3,8 @@
 //
 // Place i has T_i = rest_i + cost_i, C_i = cost_i, and the share min(W_i, cap_i, q), with W_i its work in a
 // window of q + ahead + reach_i quanta.
+#![tactic(auto)]
+
 ghost use Rattle.std.specs.Prelude.{◌≡◌, ◌+◌, ◌≤◌};
 ghost use Rattle.chord.specs.Jump.{Jumped};
 ghost use Rattle.search.specs.Search.{least_q, Searchable, NoneBelow, first_growth, Startable};

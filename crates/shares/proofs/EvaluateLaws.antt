@@ -1,8 +1,6 @@
 -- The two loops together are an evaluation: what the rows give is the share of the place, and its growth.
 -- Assumes nothing.
-use Prim.Native.Nat.{ℕ, ◌+◌, ◌-◌, ◌<◌, min}
-use mathlib.Core.Path.{◌≡◌, ap₂, ◌∙◌}
-use mathlib.Core.List.{List}
+use Rattle.std.proofs.Common.{ℕ, ◌+◌, ◌-◌, ◌<◌, min, ◌≡◌, ap₂, ◌∙◌, List}
 use Rattle.base.specs.Rows.{at}
 use Rattle.base.proofs.SumLaws.{sum_same}
 use Rattle.shares.specs.declared.Whole.{Whole}

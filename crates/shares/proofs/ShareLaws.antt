@@ -1,9 +1,6 @@
 -- A share is at most q, at least min(C, cap, q), and grows with q by its growth at least.
 -- Assumes nothing.
-use Prim.Native.Nat.{ℕ, ◌+◌, ◌-◌, ◌≤◌, min}
-use native.Mathlib.Omega.{arith}
-use mathlib.Core.Path.{◌≡◌}
-use mathlib.Core.List.{List}
+use Rattle.std.proofs.Common.{ℕ, ◌+◌, ◌-◌, ◌≤◌, min, arith, ◌≡◌, List}
 use Rattle.base.specs.Rows.{at}
 use Rattle.shares.specs.Shares.{share_at, full_at, line_at, growth_at, SoundPlace}
 use Rattle.shares.proofs.WorkLaws.{work_first, full_least, full_grows, full_above}

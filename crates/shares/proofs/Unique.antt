@@ -1,9 +1,7 @@
 -- Any two results that the promise of `evaluate` allows are equal, and so are any two rows of growths in the
 -- places that count.
 -- Assumes nothing.
-use Prim.Native.Nat.{ℕ, ◌<◌}
-use mathlib.Core.Path.{◌≡◌, ap₂}
-use mathlib.Core.List.{List}
+use Rattle.std.proofs.Common.{ℕ, ◌<◌, ◌≡◌, ap₂, List}
 use Rattle.base.specs.Rows.{at}
 use Rattle.base.proofs.Unique.{only}
 use Rattle.shares.specs.declared.Whole.{Whole}

@@ -1,11 +1,13 @@
 // One evaluation of a search: the sum of the shares at q, and what each share is sure to grow by from there.
 // Two plain loops over rows that are lent: first the works, then the shares.
+#![tactic(auto)]
+
 ghost use Rattle.std.specs.Prelude.{◌≡◌, ◌+◌, ◌*◌, ◌≤◌};
 ghost use Rattle.shares.specs.Shares.{full_of};
 ghost use Rattle.shares.specs.Rows.{Workable, WorkRows, Sharable, Shared, Evaluable, Evaluated};
 
 // The sum of the shares, and the sum of their growths.
-#[derive(Drop)]
+#[derive(Clone, Copy)]
 pub struct Whole {
     pub sum: u32,
     pub all: u32,

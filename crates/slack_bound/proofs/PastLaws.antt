@@ -1,12 +1,7 @@
 -- The least q of a sum, beside that of the sum with something more: no q before it is enough for that
 -- either.
 -- Assumes nothing.
-use Prim.Native.Nat.{ℕ, ◌+◌, ◌*◌, ◌≤◌, ◌<◌}
-use native.Mathlib.Omega.{arith}
-use mathlib.Core.Path.{◌≡◌, ap, ◌∙◌}
-use mathlib.Core.Logic.{inl, inr}
-use lib.Dec.{ltb}
-use borrow.Author.Tests.{le-ltb, ltb-false}
+use Rattle.std.proofs.Common.{ℕ, ◌+◌, ◌*◌, ◌≤◌, ◌<◌, arith, ◌≡◌, ap, ◌∙◌, inl, inr, ltb, le-ltb, ltb-false}
 use Rattle.base.specs.Least.{least}
 use Rattle.base.proofs.LeastLaws.{Answer, least_says, least_none, least_same}
 use Rattle.search.proofs.ClimbLaws.{least_below}

@@ -1,5 +1,7 @@
 // The bound of one task under slacks: W and E as document 02 has them, and the m largest differences under
 // EDF. Without differences the search is that of edition 1; with them it goes on from where that one ends.
+#![tactic(auto)]
+
 ghost use Rattle.std.specs.Prelude.{◌≡◌, ◌+◌, ◌≤◌, ◌<◌};
 ghost use Rattle.base.specs.Rows.{at};
 ghost use Rattle.model.specs.Bound.{under, bound};

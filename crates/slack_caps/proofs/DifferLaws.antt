@@ -1,10 +1,6 @@
 -- Under EDF document 01's candidates are the differences; under FP there are none of these.
 -- Assumes nothing.
-use Prim.Native.Nat.{ℕ, zero, suc, ◌+◌, ◌-◌, ◌≤◌, ◌<◌, min}
-use native.Mathlib.Omega.{arith}
-use mathlib.Core.Path.{◌≡◌, refl, sym, ap, ◌∙◌}
-use mathlib.Core.Bool.{Bool, true, false}
-use lib.Dec.{eqb}
+use Rattle.std.proofs.Common.{ℕ, zero, suc, ◌+◌, ◌-◌, ◌≤◌, ◌<◌, min, arith, ◌≡◌, refl, sym, ap, ◌∙◌, Bool, true, false, eqb}
 use Rattle.base.specs.Choice.{pick}
 use Rattle.base.specs.Sums.{top_to}
 use Rattle.base.proofs.SumLaws.{top_cap}

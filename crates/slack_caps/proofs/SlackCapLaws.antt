@@ -1,10 +1,7 @@
 -- The caps that are made under slacks, with the m largest differences, give the whole sum: over any legal
 -- system, and for the system that rows hold.
 -- Assumes nothing.
-use Prim.Native.Nat.{ℕ, ◌+◌, ◌-◌, ◌≤◌, ◌<◌, min}
-use native.Mathlib.Omega.{arith}
-use mathlib.Core.Path.{◌≡◌, refl, ap}
-use mathlib.Core.List.{List}
+use Rattle.std.proofs.Common.{ℕ, ◌+◌, ◌-◌, ◌≤◌, ◌<◌, min, arith, ◌≡◌, refl, ap, List}
 use Rattle.base.specs.Rows.{at}
 use Rattle.base.specs.Sums.{top_to}
 use Rattle.base.proofs.SumLaws.{sum_same, top_same}

@@ -1,5 +1,7 @@
 // The caps of task k under slacks. E(k,i) with slack is the work in a window of max(0, D_k - S_i); the
 // candidates under FP do not depend on slacks. What the caps leave out are the differences under EDF.
+#![tactic(auto)]
+
 ghost use Rattle.std.specs.Prelude.{◌≡◌, ℕ, ◌≤◌, ◌<◌, length, replicate};
 ghost use Rattle.base.specs.Rows.{at};
 ghost use Rattle.model.specs.Bound.{under};

@@ -1,11 +1,6 @@
 -- The loads of a legal table: each is at most 1000, none is below the exact load, nor is their total; and the
 -- loop that adds them up. Assumes nothing.
-use Prim.Native.Nat.{ℕ, zero, suc, ◌+◌, ◌*◌, ◌-◌, ◌/◌, ◌%◌, ◌≤◌, ◌<◌}
-use native.Mathlib.Omega.{arith}
-use native.Mathlib.Nat.{div-lt_iff_lt-mul, div-add-mod', div-mul-le_self, mod-lt, mul-le-mul_right, mul_assoc}
-use native.Mathlib.Nat.{mul_comm, add-mul}
-use mathlib.Core.Path.{◌≡◌, refl, ap, ◌∙◌}
-use lib.ListN.{replicate}
+use Rattle.std.proofs.Common.{ℕ, zero, suc, ◌+◌, ◌*◌, ◌-◌, ◌/◌, ◌%◌, ◌≤◌, ◌<◌, arith, div-lt_iff_lt-mul, div-add-mod', div-mul-le_self, mod-lt, mul-le-mul_right, mul_assoc, mul_comm, add-mul, ◌≡◌, refl, ap, ◌∙◌, replicate}
 use Rattle.base.specs.Sums.{sum_to}
 use Rattle.base.proofs.SumLaws.{sum_cap, sum_start, sum_step, sum_end}
 use Rattle.table.specs.Table.{LegalTable}

@@ -1,10 +1,6 @@
 -- The checks pass exactly the legal tables, and refuse every other with its first fault, in document 01's
 -- words; a legal table is a legal system. Assumes nothing.
-use Prim.Native.Nat.{ℕ, suc, ◌+◌, ◌<◌}
-use native.Mathlib.Omega.{arith}
-use mathlib.Core.Path.{◌≡◌, sym, ap, ◌∙◌}
-use mathlib.Core.Bool.{false}
-use mathlib.Core.Logic.{◌⊎◌, inl, inr, ⊎_elim}
+use Rattle.std.proofs.Common.{ℕ, suc, ◌+◌, ◌<◌, arith, ◌≡◌, sym, ap, ◌∙◌, false, ◌⊎◌, inl, inr, ⊎_elim}
 use Rattle.base.specs.Choice.{pick}
 use Rattle.base.proofs.FirstLaws.{First, NoneTo, first_is, first_none, first_cases}
 use Rattle.base.proofs.RowLaws.{list_at}

@@ -1,9 +1,11 @@
 // Tasks and tables by value, and the checks 5 to 11 of document 01 in their order, with document 02's 17.
+#![tactic(auto)]
+
 ghost use Rattle.std.specs.Prelude.{◌≡◌};
 ghost use Rattle.table.specs.Checks.{outside, head_fault, task_fault, check_of};
 
 // A task as it is given: any numbers, so that a wrong one can be named.
-#[derive(Drop)]
+#[derive(Clone, Copy)]
 pub struct Task {
     pub flag: u32,
     pub period: u32,
@@ -13,7 +15,7 @@ pub struct Task {
 }
 
 // A table of the first n of its tasks.
-#[derive(Drop)]
+#[derive(Clone, Copy)]
 pub struct Table {
     pub cores: u32,
     pub policy: u32,
@@ -31,7 +33,7 @@ pub const NO_TASK: Task = Task {
 };
 
 // A refusal: document 01's number, and its place.
-#[derive(Drop)]
+#[derive(Clone, Copy)]
 pub struct Refusal {
     pub number: u32,
     pub place: u32,
@@ -39,7 +41,7 @@ pub struct Refusal {
 
 // What the checks, or a reading, say of a table: fine, or the first fault. For a table that is given by value
 // the place is the task's number, and 0 for 5, 6, 7.
-#[derive(Drop)]
+#[derive(Clone, Copy)]
 pub enum Checked {
     Fine,
     Refused(Refusal),

@@ -1,10 +1,6 @@
 -- A task's line as the words that are written one after the other, and its length by theirs.
 -- Assumes nothing.
-use Prim.Native.Nat.{ℕ, ◌+◌}
-use native.Mathlib.Omega.{arith}
-use mathlib.Core.Path.{◌≡◌, ap, ◌∙◌}
-use mathlib.Core.List.{◌++◌, append_assoc, append-nil}
-use lib.ListN.{length, length-append}
+use Rattle.std.proofs.Common.{ℕ, ◌+◌, arith, ◌≡◌, ap, ◌∙◌, ◌++◌, append_assoc, append-nil, length, length-append}
 use Rattle.page.specs.Decimal.{decimal}
 use Rattle.page.specs.Words.{word, either, field}
 use Rattle.page.proofs.WordLaws.{either_after}

@@ -1,10 +1,12 @@
 // A task's line of the listing. Document 01, "The listing".
+#![tactic(auto)]
+
 ghost use Rattle.std.specs.Prelude.{◌+◌, ◌≤◌, length};
 ghost use Rattle.buffer.specs.Put.{Put};
 ghost use Rattle.task_lines.specs.TaskLines.{task_start, task_line_text};
 
 // What a task's line shows.
-#[derive(Drop)]
+#[derive(Clone, Copy)]
 pub struct TaskRow {
     pub number: u32,
     pub flag: u32,

@@ -1,10 +1,6 @@
 -- The listing of a legal table fits in 2,048 bytes: 27 for line one, 51 for each of at most 32 tasks, 28 for
 -- the last line. A bound is at most D. Assumes nothing.
-use Prim.Native.Nat.{ℕ, ◌+◌, ◌≤◌, ◌<◌}
-use native.Mathlib.Omega.{arith}
-use mathlib.Core.List.{List}
-use lib.Dec.{eqb}
-use lib.ListN.{length, length-append}
+use Rattle.std.proofs.Common.{ℕ, ◌+◌, ◌≤◌, ◌<◌, arith, List, eqb, length, length-append}
 use Rattle.base.specs.Rows.{at}
 use Rattle.base.proofs.RowLaws.{row_at}
 use Rattle.model.proofs.BoundLaws.{bound_range}

@@ -1,10 +1,6 @@
 -- Each line as the words that are written one after the other, its length by theirs, and that it is short.
 -- Assumes nothing.
-use Prim.Native.Nat.{ℕ, zero, suc, ◌+◌, ◌≤◌, ◌<◌}
-use native.Mathlib.Omega.{arith}
-use mathlib.Core.Path.{◌≡◌, ap, ◌∙◌}
-use mathlib.Core.List.{◌++◌, append_assoc, append-nil}
-use lib.ListN.{length, length-append}
+use Rattle.std.proofs.Common.{ℕ, zero, suc, ◌+◌, ◌≤◌, ◌<◌, arith, ◌≡◌, ap, ◌∙◌, ◌++◌, append_assoc, append-nil, length, length-append}
 use Rattle.page.specs.Decimal.{decimal}
 use Rattle.page.specs.Words.{word, either}
 use Rattle.page.proofs.WordLaws.{either_zero, either_other, either_after}

@@ -1,5 +1,7 @@
 // The listing of a plan as sent, by the test: each task with its bound or none, and yes or no. It goes into a
 // buffer that the caller lends.
+#![tactic(auto)]
+
 ghost use Rattle.std.specs.Prelude.{◌≡◌, ◌+◌, ◌≤◌, length};
 ghost use Rattle.table.specs.Table.{LegalTable};
 ghost use Rattle.buffer.specs.Put.{Put};
@@ -11,7 +13,7 @@ use planner::{Answer, Done, Job, Record};
 use table::{Checked, Table};
 
 // What a task's line shows.
-#[derive(Drop)]
+#[derive(Clone, Copy)]
 struct TestRow {
     number: u32,
     flag: u32,

@@ -1,6 +1,8 @@
 // Many texts in one run. A case is a digit for what is asked (0 the reading, 1 the listing after forcing, 2
 // the writing of a table, 3 the plan as changed), the length of its text in four decimal digits, a 0A, and
 // the text. The answers go to standard output, one after the other.
+#![tactic(auto)]
+
 mod reading;
 mod writing;
 

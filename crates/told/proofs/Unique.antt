@@ -1,6 +1,6 @@
 -- Any two results that the promise of a public function of this crate allows are equal.
 -- Assumes nothing.
-use mathlib.Core.Path.{refl}
+use Rattle.std.proofs.Common.{refl}
 use Rattle.base.proofs.Unique.{only, Only, OnlyWith}
 use Rattle.told.proofs.fields_of.Kinds as fields-of
 use Rattle.told.proofs.fields_of.Reads as fields-of-reads

@@ -1,5 +1,7 @@
 // What the planner tells C and Rust of an answer: numbers in one order for all jobs, into a lent list
 // (specs/Told.antt).
+#![tactic(auto)]
+
 ghost use Rattle.std.specs.Prelude.{◌≡◌, min, length};
 ghost use Rattle.told.specs.Told.{as_number, fields, told_of, told_after};
 

@@ -1,7 +1,5 @@
 -- The end place can be read back from the numbers that are told. Assumes nothing.
-use Prim.Native.Nat.{ℕ, ◌+◌, ◌*◌}
-use native.Mathlib.Omega.{arith}
-use mathlib.Core.Path.{◌≡◌}
+use Rattle.std.proofs.Common.{ℕ, ◌+◌, ◌*◌, arith, ◌≡◌}
 use Rattle.base.specs.Rows.{at}
 use Rattle.told.specs.Told.{fields}
 use Rattle.writer.specs.declared.Written.TheVariants.{End}

@@ -1,5 +1,7 @@
 // What the planner tells C and Rust of a plan that it was to write: the lent answer's numbers, with the end
 // place among them. Document 02, Wish 1.
+#![tactic(auto)]
+
 ghost use Rattle.std.specs.Prelude.{◌≡◌};
 ghost use Rattle.told_plans.specs.PlanNumbers.{written_told, changed_told};
 

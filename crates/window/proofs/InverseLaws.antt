@@ -1,11 +1,9 @@
 -- A division by t is a multiplication by k / t + 1 and a division by k, for a dividend x with x × t below k:
 -- the product is at least x / t whole k's, and does not reach the next one.
 -- Assumes nothing.
-use Prim.Native.Nat.{ℕ, ◌+◌, ◌*◌, ◌-◌, ◌/◌, ◌%◌, ◌≤◌, ◌<◌}
-use native.Mathlib.Omega.{arith}
-use native.Mathlib.Nat.{div-add-mod', mod-lt, div-eq_of_lt-le, mul-le-mul_left, mul-le-mul_right}
-use native.Mathlib.Nat.{lt_of_mul-lt-mul_left}
-use mathlib.Core.Path.{◌≡◌, ap, sym, subst}
+use Rattle.std.proofs.Common.{ℕ, ◌+◌, ◌*◌, ◌-◌, ◌/◌, ◌%◌, ◌≤◌, ◌<◌, arith, div-add-mod', mod-lt, mul-le-mul_left, mul-le-mul_right, ◌≡◌, ap, sym, subst}
+use Rattle.std.proofs.Math.Nat.{div-eq_of_lt-le}
+use Rattle.std.proofs.Math.Nat.{lt_of_mul-lt-mul_left}
 
 -- below, k is a × t + s with s at most t, and x is n × t + r
 reaches : (a s n r t : ℕ) → s ≤ t → n * (a * t + s) ≤ (n * t + r) * (a + 1)

@@ -1,5 +1,7 @@
 // The work of a task in a window, with no division: a window is multiplied by an inverse of the period, which
 // is worked out once for a table, and 2^42 of the product are one whole period.
+#![tactic(auto)]
+
 ghost use Rattle.std.specs.Prelude.{◌≡◌, ◌+◌, ◌≤◌};
 ghost use Rattle.model.specs.Bound.{work_in};
 ghost use Rattle.window.specs.Window.{inverse_of, whole_in, Windowed};

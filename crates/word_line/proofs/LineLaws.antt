@@ -1,10 +1,6 @@
 -- The line of a word in the parts that are written one after the other, and the text of each answer.
 -- Assumes nothing.
-use Prim.Native.Nat.{ℕ, ◌+◌, ◌/◌, ◌%◌, ◌≤◌}
-use native.Mathlib.Omega.{arith}
-use mathlib.Core.Path.{◌≡◌, refl, sym, ap, ◌∙◌}
-use mathlib.Core.List.{List, [], ◌∷◌, ◌++◌}
-use lib.ListN.{length}
+use Rattle.std.proofs.Common.{ℕ, ◌+◌, ◌/◌, ◌%◌, ◌≤◌, arith, ◌≡◌, refl, sym, ap, ◌∙◌, List, [], ◌∷◌, ◌++◌, length}
 use Rattle.table.specs.declared.Refusal.{Refusal}
 use Rattle.frames.specs.Text.{bytes_text, word_bytes}
 use Rattle.planner.specs.declared.Done.{Done}

@@ -7,10 +7,7 @@
 --   the digits of a word, highest first                                  word_three, word_all
 --
 -- Assumes nothing.
-use mathlib.Core.Path.{◌≡◌, refl, sym, ◌∙◌}
-use Prim.Native.Nat.{ℕ}
-use mathlib.Core.List.{List}
-use lib.ListN.{take}
+use Rattle.std.proofs.Common.{◌≡◌, refl, sym, ◌∙◌, ℕ, List, take}
 use Rattle.base.proofs.Unique.{OnlyWith}
 use Rattle.table.specs.declared.Refusal.{Refusal}
 use Rattle.frames.specs.Digits.{digit_text, raised}

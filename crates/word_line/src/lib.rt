@@ -1,5 +1,7 @@
 // The line of a plan's flags after forcing: "word" and the word in eight hexadecimal digits, or the refusal's
 // one line. It goes into a buffer that the caller lends. Document 02, Wish 7.
+#![tactic(auto)]
+
 ghost use Rattle.std.specs.Prelude.{◌≤◌, length};
 ghost use Rattle.buffer.specs.Put.{Put};
 ghost use Rattle.word_line.specs.WordLine.{word_line, WordListed};

@@ -1,10 +1,7 @@
 -- The word of an answer is the one that ties to the flags in its records, and 0 where there are none. From
 -- flags by place, and from the flags that an answer holds before its records are listed.
 -- Assumes nothing.
-use Prim.Native.Nat.{ℕ, ◌≤◌, min}
-use native.Mathlib.Omega.{arith}
-use mathlib.Core.Path.{◌≡◌, refl, sym, ap, ◌∙◌}
-use mathlib.Core.List.{List}
+use Rattle.std.proofs.Common.{ℕ, ◌≤◌, min, arith, ◌≡◌, refl, sym, ap, ◌∙◌, List}
 use Rattle.base.proofs.RowLaws.{row_at}
 use Rattle.base.specs.Sums.{sum_to}
 use Rattle.table.specs.declared.Refusal.{Refusal}

@@ -1,5 +1,7 @@
 // The flags of an answer in one word, for a loader that keeps them so: bit 0 for task 1, a 1 for
 // non-preemptive. Document 02, Wish 7.
+#![tactic(auto)]
+
 ghost use Rattle.std.specs.Prelude.{◌≡◌, min};
 ghost use Rattle.words.specs.Word.{word_of_done};
 

@@ -1,13 +1,7 @@
 -- The table with zeros past its last task has the same text, is legal where the table is, and has its levels.
 -- Assumes nothing.
-use Prim.Native.Nat.{ℕ, zero, suc, ◌≤◌, ◌<◌}
-use native.Mathlib.Omega.{arith}
-use mathlib.Core.Path.{◌≡◌, refl, sym, ap, ap₂, subst, ◌∙◌}
-use mathlib.Core.Bool.{Bool, true, false}
-use mathlib.Core.List.{◌++◌}
-use lib.Dec.{ltb}
-use lib.ListN.{get_or-eq_default}
-use borrow.Author.Tests.{ltb-true, ltb-false}
+use Rattle.std.proofs.Common.{ℕ, zero, suc, ◌≤◌, ◌<◌, arith, ◌≡◌, refl, sym, ap, ap₂, subst, ◌∙◌, Bool, true, false, ◌++◌, ltb, ltb-true, ltb-false}
+use Rattle.std.proofs.Math.ListN.{get_or-eq_default}
 use Rattle.base.specs.Rows.{row}
 use Rattle.base.proofs.RowLaws.{row_at, row_past, row_length}
 use Rattle.table.specs.declared.Task.{Task}

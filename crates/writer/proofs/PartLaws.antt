@@ -1,10 +1,5 @@
 -- What a buffer holds after a word was written into it. Assumes nothing.
-use Prim.Native.Nat.{ℕ, ◌+◌, ◌-◌}
-use native.Mathlib.Omega.{arith}
-use mathlib.Core.Path.{◌≡◌, sym, ap, ◌∙◌}
-use mathlib.Core.List.{List, ◌++◌, append_assoc}
-use lib.ListN.{length, take, drop, length-append}
-use lib.Seq.{length-take-le, take_at, drop_at}
+use Rattle.std.proofs.Common.{ℕ, ◌+◌, ◌-◌, arith, ◌≡◌, sym, ap, ◌∙◌, List, ◌++◌, append_assoc, length, take, drop, length-append, length-take-le, take_at, drop_at}
 use Rattle.buffer.specs.Put.{Put}
 
 module _ {s w s' : List ℕ} {at r : ℕ} (p : Put s at w r s') where

@@ -13,15 +13,7 @@
 --   the end lies within the buffer                                    end_within
 --
 -- Assumes nothing.
-use Prim.Native.Nat.{ℕ, zero, suc, ◌+◌, ◌-◌, ◌≤◌, ◌<◌}
-use native.Mathlib.Omega.{arith}
-use mathlib.Core.Path.{◌≡◌, refl, sym, ap, subst, ◌∙◌}
-use mathlib.Core.Bool.{Bool, true, false}
-use mathlib.Core.Logic.{◌↔◌, ◌⊎◌, ⊎_elim}
-use mathlib.Core.List.{List}
-use lib.Dec.{ltb}
-use lib.ListN.{length, take, drop}
-use borrow.Author.Tests.{lt-ltb, le-ltb, ltb-true, ltb-false}
+use Rattle.std.proofs.Common.{ℕ, zero, suc, ◌+◌, ◌-◌, ◌≤◌, ◌<◌, arith, ◌≡◌, refl, sym, ap, subst, ◌∙◌, Bool, true, false, ◌↔◌, ◌⊎◌, ⊎_elim, List, ltb, length, take, drop, lt-ltb, le-ltb, ltb-true, ltb-false}
 use Rattle.base.specs.Choice.{or_else}
 use Rattle.base.proofs.RowLaws.{row_is}
 use Rattle.table.specs.declared.Task.{Task}

@@ -1,5 +1,7 @@
 // Writing a plan: the checks of a table, the room that its text needs, whether its levels are its places, the
 // head line and then the task lines. Document 02, Wishes 1 and 8.
+#![tactic(auto)]
+
 ghost use Rattle.std.specs.Prelude.{◌≡◌, take};
 ghost use Rattle.table.specs.Table.{LegalTable};
 ghost use Rattle.lines.specs.Form.{form1};
@@ -9,7 +11,7 @@ ghost use Rattle.writer.specs.Written.{table_from, TextPut, WroteAs};
 use table::{Checked, Refusal, Table, Task};
 
 // The place after the last line, or a refusal: 5 to 11 and 17, or 16, or 18.
-#[derive(Drop)]
+#[derive(Clone, Copy)]
 pub enum Written {
     End(usize),
     Refused(Refusal),

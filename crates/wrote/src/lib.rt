@@ -1,5 +1,7 @@
 // The planner's writing for C and Rust: a plan into a lent buffer, and what is told of it into a lent list of
 // numbers, the end place among them. Document 02, Wishes 1 and 8.
+#![tactic(auto)]
+
 ghost use Rattle.wrote.specs.Wrote.{TasksWrote, PlanChanged};
 
 // Cores, policy and a flat table as a plan, from the place `start` of the buffer on; 1 where it is written. A

@@ -1,8 +1,6 @@
 -- `asked::answered` meets its contract: a fault, 13, or what the job says of the rows.
 -- Assumes nothing.
-use native.Mathlib.Omega.{arith}
-use mathlib.Core.Path.{◌∙◌}
-use borrow.Author.Rules.{rules}
+use Rattle.std.proofs.Common.{arith, ◌∙◌, rules}
 use Rattle.planner.proofs.StageLaws.{said_refused, room_short, room_enough}
 use Rattle.asked.proofs.SaidLaws.{fine_room, faulty_room}
 use Rattle.asked.proofs.answered.Statement.{statement}

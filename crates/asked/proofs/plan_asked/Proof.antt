@@ -1,7 +1,6 @@
 -- `asked::plan_asked` meets its contract: what is loaded is answered, and its records are written.
 -- Assumes nothing.
-use mathlib.Core.Path.{refl}
-use borrow.Author.Rules.{rules}
+use Rattle.std.proofs.Common.{refl, rules}
 use Rattle.planner.proofs.CountLaws.{plan_small}
 use Rattle.flat.proofs.FlatLaws.{flat_fits}
 use Rattle.asked.proofs.AskedLaws.{plan_rows, plan_is, few_said, asked_as}

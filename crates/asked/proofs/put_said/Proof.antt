@@ -1,8 +1,6 @@
 -- `asked::put_said` meets its contract. The loop's invariant: the records passed are written.
 -- Assumes nothing.
-use Prim.Native.Nat.{◌-◌}
-use native.Mathlib.Omega.{arith}
-use borrow.Author.Rules.{rules}
+use Rattle.std.proofs.Common.{◌-◌, arith, rules}
 use Rattle.planner.specs.Rows.{said_done}
 use Rattle.flat.specs.Flat.{flat_after}
 use Rattle.flat.proofs.FlatLaws.{Putting, putting_start, putting_length, putting_end}

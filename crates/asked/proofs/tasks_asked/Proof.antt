@@ -1,7 +1,6 @@
 -- `asked::tasks_asked` meets its contract: what is loaded is answered, and its records are written.
 -- Assumes nothing.
-use mathlib.Core.Path.{refl}
-use borrow.Author.Rules.{rules}
+use Rattle.std.proofs.Common.{refl, rules}
 use Rattle.planner.proofs.CountLaws.{list_small}
 use Rattle.flat.proofs.FlatLaws.{flat_fits}
 use Rattle.asked.proofs.AskedLaws.{list_rows, list_is, few_said, asked_as}

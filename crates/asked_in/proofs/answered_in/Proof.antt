@@ -1,7 +1,6 @@
 -- `asked_in::answered_in` meets its contract, by the edition.
 -- Assumes nothing.
-use mathlib.Core.Path.{ap}
-use borrow.Author.Rules.{rules}
+use Rattle.std.proofs.Common.{ap, rules}
 use Rattle.edition_2.specs.Second.{unrounded}
 use Rattle.asked_in.proofs.InLaws.{found_first, found_second_lem}
 use Rattle.asked_in.proofs.answered_in.Statement.{statement}

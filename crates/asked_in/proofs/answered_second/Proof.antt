@@ -1,7 +1,6 @@
 -- `asked_in::answered_second` meets its contract: a fault, 13, or what the job says of the rows.
 -- Assumes nothing.
-use native.Mathlib.Omega.{arith}
-use borrow.Author.Rules.{rules}
+use Rattle.std.proofs.Common.{arith, rules}
 use Rattle.planner.proofs.StageLaws.{said_refused}
 use Rattle.asked_in.proofs.InLaws.{second_faulty, second_full, second_fine}
 use Rattle.asked_in.proofs.answered_second.Statement.{statement}

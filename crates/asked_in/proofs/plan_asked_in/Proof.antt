@@ -1,7 +1,6 @@
 -- `asked_in::plan_asked_in` meets its contract: what is loaded is answered, and its records are written.
 -- Assumes nothing.
-use mathlib.Core.Path.{refl, ap}
-use borrow.Author.Rules.{rules}
+use Rattle.std.proofs.Common.{refl, ap, rules}
 use Rattle.edition_2.specs.declared.Rounded.{Rounded}
 use Rattle.editions.proofs.CountLaws.{plan_in_small}
 use Rattle.flat.proofs.FlatLaws.{flat_fits}

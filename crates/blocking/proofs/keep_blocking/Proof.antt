@@ -1,7 +1,6 @@
 -- `blocking::keep_blocking` meets its contract: where there is no candidate an empty row keeps all.
 -- Assumes nothing.
-use mathlib.Core.Path.{sym, ◌∙◌}
-use borrow.Author.Rules.{rules}
+use Rattle.std.proofs.Common.{sym, ◌∙◌, rules}
 use Rattle.base.specs.Rows.{at}
 use Rattle.flags.specs.Flags.{flag_in}
 use Rattle.rows.specs.Levels.{higher_at}

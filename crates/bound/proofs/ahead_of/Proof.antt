@@ -1,6 +1,6 @@
 -- `bound::ahead_of` meets its contract.
 -- Assumes nothing.
-use borrow.Author.Rules.{rules}
+use Rattle.std.proofs.Common.{rules}
 use Rattle.bound.proofs.QLaws.{flag_pre}
 use Rattle.bound.proofs.ahead_of.Statement.{statement}
 use Rattle.bound.proofs.ahead_of.Tie as tie

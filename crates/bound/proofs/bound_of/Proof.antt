@@ -1,7 +1,6 @@
 -- `bound::bound_of` meets its contract: the least q under the caps gives the bound.
 -- Assumes nothing.
-use native.Mathlib.Omega.{arith}
-use borrow.Author.Rules.{rules}
+use Rattle.std.proofs.Common.{arith, rules}
 use Rattle.flags.specs.Flags.{flag_in}
 use Rattle.bound.proofs.SearchLaws.{rows_searchable, rows_sooner, search_none, search_found}
 use Rattle.bound.proofs.SearchLaws.{search_small}

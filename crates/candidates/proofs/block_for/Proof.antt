@@ -1,6 +1,6 @@
 -- `candidates::block_for` meets its contract: the tests on the way pick the line of `block_for`.
 -- Assumes nothing.
-use borrow.Author.Rules.{rules}
+use Rattle.std.proofs.Common.{rules}
 use Rattle.candidates.proofs.Lines.{block_lines}
 use Rattle.candidates.proofs.block_for.Statement.{statement}
 use Rattle.candidates.proofs.block_for.Tie as tie

@@ -1,8 +1,6 @@
 -- `candidates::candidates` meets its contract. The loop's invariant: the places passed hold their candidates.
 -- Assumes nothing.
-use Prim.Native.Nat.{◌-◌, ◌≤◌}
-use native.Mathlib.Omega.{arith}
-use borrow.Author.Rules.{rules}
+use Rattle.std.proofs.Common.{◌-◌, ◌≤◌, arith, rules}
 use Rattle.base.specs.Rows.{at}
 use Rattle.model.specs.Bound.{FP}
 use Rattle.flags.specs.Flags.{flag_in}

@@ -1,6 +1,6 @@
 -- `cap_for::cap_for` meets its contract: the tests on the way pick the line of `cap_for`.
 -- Assumes nothing.
-use borrow.Author.Rules.{rules}
+use Rattle.std.proofs.Common.{rules}
 use Rattle.cap_for.proofs.Lines.{cap_lines}
 use Rattle.cap_for.proofs.cap_for.Statement.{statement}
 use Rattle.cap_for.proofs.cap_for.Tie as tie

@@ -1,10 +1,7 @@
 -- `caps::add_caps` meets its contract. The loop's invariant: the places passed have their caps besides what
 -- they held.
 -- Assumes nothing.
-use Prim.Native.Nat.{◌+◌, ◌-◌, ◌≤◌}
-use native.Mathlib.Omega.{arith}
-use mathlib.Core.Path.{◌≡◌}
-use borrow.Author.Rules.{rules}
+use Rattle.std.proofs.Common.{◌+◌, ◌-◌, ◌≤◌, arith, ◌≡◌, rules}
 use Rattle.base.specs.Rows.{at}
 use Rattle.table.specs.Table.{policy_of}
 use Rattle.flags.specs.Flags.{flag_in}

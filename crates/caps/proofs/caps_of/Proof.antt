@@ -1,6 +1,6 @@
 -- `caps::caps_of` meets its contract: the candidates kept and the caps added are the caps of task k.
 -- Assumes nothing.
-use borrow.Author.Rules.{rules}
+use Rattle.std.proofs.Common.{rules}
 use Rattle.caps.proofs.MadeLaws.{rows_kept, rows_caps}
 use Rattle.caps.proofs.caps_of.Statement.{statement}
 use Rattle.caps.proofs.caps_of.Tie as tie

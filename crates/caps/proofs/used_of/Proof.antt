@@ -1,6 +1,6 @@
 -- `caps::used_of` meets its contract. The loop's invariant: from `used` on every cap is 0.
 -- Assumes nothing.
-use borrow.Author.Rules.{rules}
+use Rattle.std.proofs.Common.{rules}
 use Rattle.base.specs.Rows.{at}
 use Rattle.caps.specs.Caps.{Used}
 use Rattle.caps.proofs.UsedLaws.{used_start, used_step}

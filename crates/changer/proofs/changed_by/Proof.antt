@@ -1,5 +1,5 @@
 -- `changer::changed_by` meets its contract, case by case. Assumes nothing.
-use borrow.Author.Rules.{rules}
+use Rattle.std.proofs.Common.{rules}
 use Rattle.changer.proofs.changed_by.Statement.{statement}
 use Rattle.changer.proofs.changed_by.Tie as tie
 

@@ -1,8 +1,6 @@
 -- `changer::table_in` meets its contract: after i turns the first i tasks are those of the rows.
 -- Assumes nothing.
-use Prim.Native.Nat.{◌-◌}
-use native.Mathlib.Omega.{arith}
-use borrow.Author.Rules.{rules}
+use Rattle.std.proofs.Common.{◌-◌, arith, rules}
 use Rattle.changer.proofs.HeldLaws.{Taking, taking_start, taking_step, taking_end}
 use Rattle.changer.proofs.table_in.Statement.{statement}
 use Rattle.changer.proofs.table_in.Tie as tie

@@ -1,8 +1,6 @@
 -- `changer::with_flags` meets its contract: after i turns the first i tasks have the flags of the records.
 -- Assumes nothing.
-use Prim.Native.Nat.{◌-◌}
-use native.Mathlib.Omega.{arith}
-use borrow.Author.Rules.{rules}
+use Rattle.std.proofs.Common.{◌-◌, arith, rules}
 use Rattle.changer.proofs.ChangeLaws.{Flagging, flagging_start, flagging_step, flagging_end}
 use Rattle.changer.proofs.with_flags.Statement.{statement}
 use Rattle.changer.proofs.with_flags.Tie as tie

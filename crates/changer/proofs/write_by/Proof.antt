@@ -1,6 +1,6 @@
 -- `changer::write_by` meets its contract: the answer's refusal, or what the writer answers.
 -- Assumes nothing.
-use borrow.Author.Rules.{rules}
+use Rattle.std.proofs.Common.{rules}
 use Rattle.changer.proofs.ChangeLaws.{changes_written, changes_stopped}
 use Rattle.changer.proofs.write_by.Statement.{statement}
 use Rattle.changer.proofs.write_by.Tie as tie

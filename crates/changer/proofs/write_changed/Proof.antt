@@ -1,7 +1,6 @@
 -- `changer::write_changed` meets its contract: the reading's refusal, or what is said of its rows.
 -- Assumes nothing.
-use mathlib.Core.Path.{refl}
-use borrow.Author.Rules.{rules}
+use Rattle.std.proofs.Common.{refl, rules}
 use Rattle.changer.proofs.HeldLaws.{legal_times, plan_legal, plan_changed, plan_refused}
 use Rattle.changer.proofs.write_changed.Statement.{statement}
 use Rattle.changer.proofs.write_changed.Tie as tie

@@ -1,6 +1,6 @@
 -- `changer::write_done` meets its contract: the table with the flags of the records is written.
 -- Assumes nothing.
-use borrow.Author.Rules.{rules}
+use Rattle.std.proofs.Common.{rules}
 use Rattle.changer.proofs.ChangeLaws.{changes_of}
 use Rattle.changer.proofs.write_done.Statement.{statement}
 use Rattle.changer.proofs.write_done.Tie as tie

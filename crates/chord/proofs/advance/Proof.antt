@@ -1,10 +1,7 @@
 -- `chord::advance` meets its contract. The loop's invariant: the line holds at d, or nothing is left there; d
 -- falls.
 -- Assumes nothing.
-use Prim.Native.Nat.{◌+◌}
-use native.Mathlib.Omega.{arith}
-use native.Mathlib.Nat.{div-le_self}
-use borrow.Author.Rules.{rules}
+use Rattle.std.proofs.Common.{◌+◌, arith, div-le_self, rules}
 use Rattle.base.specs.Rows.{at}
 use Rattle.chord.proofs.JumpLaws.{Falling, fall_start, fall_fits, fall_end, fall_fewer}
 use Rattle.chord.proofs.JumpLaws.{fall_less, fall_on}

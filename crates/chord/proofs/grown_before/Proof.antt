@@ -1,9 +1,7 @@
 -- `chord::grown_before` meets its contract. The loop's invariant: low and count are those of the shares
 -- passed.
 -- Assumes nothing.
-use Prim.Native.Nat.{◌-◌}
-use mathlib.Core.Logic.{⊎_elim}
-use borrow.Author.Rules.{rules}
+use Rattle.std.proofs.Common.{◌-◌, ⊎_elim, rules}
 use Rattle.base.specs.Rows.{at}
 use Rattle.chord.proofs.JumpLaws.{Run, run_start, run_still, run_on, run_end}
 use Rattle.chord.proofs.grown_before.Statement.{statement}

@@ -1,7 +1,6 @@
 -- `coded::code_of` meets its contract, by the cases of an answer.
 -- Assumes nothing.
-use native.Mathlib.Omega.{arith}
-use borrow.Author.Rules.{rules}
+use Rattle.std.proofs.Common.{arith, rules}
 use Rattle.coded.proofs.CodedLaws.{yes_small, given_code, refused_code}
 use Rattle.coded.proofs.code_of.Statement.{statement}
 use Rattle.coded.proofs.code_of.Tie as tie

@@ -1,6 +1,6 @@
 -- `coded::code_plan` meets its contract: the answer in parts, and its code.
 -- Assumes nothing.
-use borrow.Author.Rules.{rules}
+use Rattle.std.proofs.Common.{rules}
 use Rattle.coded.proofs.CodedLaws.{plan_coded}
 use Rattle.coded.proofs.code_plan.Statement.{statement}
 use Rattle.coded.proofs.code_plan.Tie as tie

@@ -1,6 +1,6 @@
 -- `coded::code_tasks` meets its contract: the answer in parts, and its code.
 -- Assumes nothing.
-use borrow.Author.Rules.{rules}
+use Rattle.std.proofs.Common.{rules}
 use Rattle.coded.proofs.CodedLaws.{tasks_coded}
 use Rattle.coded.proofs.code_tasks.Statement.{statement}
 use Rattle.coded.proofs.code_tasks.Tie as tie

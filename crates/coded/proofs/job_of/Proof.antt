@@ -1,7 +1,7 @@
 -- `coded::job_of` meets its contract, by cases on the number.
 -- Assumes nothing.
+use Rattle.std.proofs.Common.{rules}
 use Rattle.coded.proofs.CodedLaws.{job_force}
-use borrow.Author.Rules.{rules}
 use Rattle.coded.proofs.job_of.Statement.{statement}
 use Rattle.coded.proofs.job_of.Tie as tie
 

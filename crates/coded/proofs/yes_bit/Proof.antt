@@ -1,6 +1,6 @@
 -- `coded::yes_bit` meets its contract, by the test.
 -- Assumes nothing.
-use mathlib.Core.Path.{refl}
+use Rattle.std.proofs.Common.{refl}
 use Rattle.coded.specs.Coded.{yes_bit}
 use Rattle.coded.proofs.yes_bit.Statement.{statement}
 use Rattle.coded.proofs.yes_bit.Tie as tie

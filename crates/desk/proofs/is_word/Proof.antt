@@ -1,6 +1,5 @@
 -- `desk::is_word` is safe and ends: what is left to compare falls. Assumes nothing.
-use borrow.Author.Rules.{rules}
-use Prim.Native.Nat.{◌≤◌, ◌-◌}
+use Rattle.std.proofs.Common.{rules, ◌≤◌, ◌-◌}
 use Rattle.desk.proofs.is_word.Statement.{statement}
 use Rattle.desk.proofs.is_word.Tie as tie
 

@@ -1,7 +1,5 @@
 -- `desk::line_end` is safe and ends, and its place lies within the input. Assumes nothing.
-use borrow.Author.Rules.{rules}
-use Prim.Native.Nat.{◌≤◌, ◌-◌}
-use lib.ListN.{length}
+use Rattle.std.proofs.Common.{rules, ◌≤◌, ◌-◌, length}
 use Rattle.desk.proofs.line_end.Statement.{statement}
 use Rattle.desk.proofs.line_end.Tie as tie
 

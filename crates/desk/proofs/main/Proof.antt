@@ -1,7 +1,5 @@
 -- `desk::main` is safe: the text is the part of the buffer that was read. Assumes nothing.
-use mathlib.Core.Path.{sym}
-use lib.Seq.{length-take-le}
-use borrow.Author.Rules.{rules}
+use Rattle.std.proofs.Common.{sym, length-take-le, rules}
 use Rattle.desk.proofs.main.Statement.{statement}
 use Rattle.desk.proofs.main.Tie as tie
 

@@ -1,9 +1,6 @@
 -- `desk::make` is safe: what is written is a part of the buffer. Assumes nothing.
-use native.Mathlib.Omega.{arith}
-use mathlib.Core.Path.{sym}
-use lib.Seq.{length-take-le}
+use Rattle.std.proofs.Common.{arith, sym, length-take-le, rules}
 use Rattle.writer.proofs.Theorems.{end_within}
-use borrow.Author.Rules.{rules}
 use Rattle.desk.proofs.make.Statement.{statement}
 use Rattle.desk.proofs.make.Tie as tie
 

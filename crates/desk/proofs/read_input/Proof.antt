@@ -1,9 +1,6 @@
 -- `desk::read_input` is safe and ends, and its count lies within the buffer: each turn reads a byte.
 -- Assumes nothing.
-use borrow.Author.Rules.{rules}
-use mathlib.Core.Path.{◌≡◌}
-use Prim.Native.Nat.{◌≤◌, ◌-◌}
-use lib.ListN.{length}
+use Rattle.std.proofs.Common.{rules, ◌≡◌, ◌≤◌, ◌-◌, length}
 use Rattle.desk.proofs.read_input.Statement.{statement}
 use Rattle.desk.proofs.read_input.Tie as tie
 

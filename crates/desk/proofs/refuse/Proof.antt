@@ -1,9 +1,6 @@
 -- `desk::refuse` is safe: the refusal's line fits into the buffer. Assumes nothing.
-use native.Mathlib.Omega.{arith}
-use mathlib.Core.Path.{sym}
-use lib.Seq.{length-take-le}
+use Rattle.std.proofs.Common.{arith, sym, length-take-le, rules}
 use Rattle.listing.proofs.FitLaws.{refusal_fits}
-use borrow.Author.Rules.{rules}
 use Rattle.desk.proofs.refuse.Statement.{statement}
 use Rattle.desk.proofs.refuse.Tie as tie
 

@@ -1,9 +1,7 @@
 -- `differences::differences_of` meets its contract: empty rows where there are no differences, else those
 -- that are listed.
 -- Assumes nothing.
-use native.Mathlib.Omega.{arith}
-use mathlib.Core.Path.{sym, ◌∙◌}
-use borrow.Author.Rules.{rules}
+use Rattle.std.proofs.Common.{arith, sym, ◌∙◌, rules}
 use Rattle.flags.specs.Flags.{flag_in}
 use Rattle.blocking.proofs.BlockLaws.{empty_size}
 use Rattle.differences.proofs.DifferenceLaws.{fp_differs, preemptive_differs, edf_lists, edf_differs}

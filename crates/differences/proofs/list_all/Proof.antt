@@ -1,9 +1,7 @@
 -- `differences::list_all` meets its contract. The loop's invariant: the places passed hold their waits and
 -- what they can put up, which come to `all`.
 -- Assumes nothing.
-use Prim.Native.Nat.{◌-◌}
-use native.Mathlib.Omega.{arith}
-use borrow.Author.Rules.{rules}
+use Rattle.std.proofs.Common.{◌-◌, arith, rules}
 use Rattle.base.specs.Rows.{at}
 use Rattle.flags.specs.Flags.{flag_in}
 use Rattle.differences.proofs.ListLaws.{Listing, listing_start, listing_fits, listing_step}

@@ -1,6 +1,6 @@
 -- `differences::most_for` meets its contract: the test on the way picks the line of `most_for`.
 -- Assumes nothing.
-use borrow.Author.Rules.{rules}
+use Rattle.std.proofs.Common.{rules}
 use Rattle.differences.proofs.ListLaws.{most_pre, most_non}
 use Rattle.differences.proofs.most_for.Statement.{statement}
 use Rattle.differences.proofs.most_for.Tie as tie

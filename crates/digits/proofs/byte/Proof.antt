@@ -1,7 +1,6 @@
 -- `digits::byte` meets its contract: two digit values of at most 255 fit.
 -- Assumes nothing.
-use native.Mathlib.Omega.{arith}
-use borrow.Author.Rules.{rules}
+use Rattle.std.proofs.Common.{arith, rules}
 use Rattle.frames.specs.Digits.{byte_at}
 use Rattle.frames.proofs.DigitLaws.{digit_most}
 use Rattle.digits.proofs.byte.Statement.{statement}

@@ -1,7 +1,6 @@
 -- `digits::digit` meets its contract: the table has each byte's digit value.
 -- Assumes nothing.
-use mathlib.Core.Path.{◌∙◌}
-use borrow.Author.Rules.{rules}
+use Rattle.std.proofs.Common.{◌∙◌, rules}
 use Rattle.frames.proofs.DigitLaws.{table_digit}
 use Rattle.digits.proofs.digit.Statement.{statement}
 use Rattle.digits.proofs.digit.Tie as tie

@@ -1,6 +1,6 @@
 -- `digits::digit_table` meets its contract: the table's rule is one computed test over its 256 entries.
 -- Assumes nothing.
-use mathlib.Core.Path.{refl}
+use Rattle.std.proofs.Common.{refl}
 use Rattle.base.specs.Rows.{list_from}
 use Rattle.frames.specs.Digits.{digit_of, digit_table}
 use Rattle.digits.proofs.digit_table.Statement.{statement}

@@ -1,9 +1,8 @@
 -- `digits::word` meets its contract: four bytes below 256 fit.
 -- Assumes nothing.
-use native.Mathlib.Omega.{arith}
+use Rattle.std.proofs.Common.{arith, rules}
 use Rattle.frames.specs.Digits.{word_at}
 use Rattle.frames.proofs.DigitLaws.{WordBytes, word_bytes_lem}
-use borrow.Author.Rules.{rules}
 use Rattle.digits.proofs.word.Statement.{statement}
 use Rattle.digits.proofs.word.Tie as tie
 

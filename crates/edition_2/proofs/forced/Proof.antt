@@ -1,7 +1,6 @@
 -- `edition_2::forced` meets its contract: what its calls say is a case of the definition.
 -- Assumes nothing.
-use mathlib.Core.Path.{refl, ap, ◌∙◌}
-use borrow.Author.Rules.{rules}
+use Rattle.std.proofs.Common.{refl, ap, ◌∙◌, rules}
 use Rattle.planner.specs.Rows.{said_done}
 use Rattle.planner.proofs.StageLaws.{said_refused}
 use Rattle.round_slacks.proofs.MoveLaws.{ends_empty}

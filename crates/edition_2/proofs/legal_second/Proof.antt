@@ -1,8 +1,7 @@
 -- `edition_2::legal_second` meets its contract: from the rows and the flags of the table, and then its
 -- records.
 -- Assumes nothing.
-use mathlib.Core.Path.{refl}
-use borrow.Author.Rules.{rules}
+use Rattle.std.proofs.Common.{refl, rules}
 use Rattle.rows.proofs.HeldLaws.{table_rows}
 use Rattle.forcing.proofs.TableLaws.{given_held}
 use Rattle.edition_2.proofs.SecondLaws.{second_few, second_listed}

@@ -1,7 +1,6 @@
 -- `edition_2::rows_second` meets its contract, by the job.
 -- Assumes nothing.
-use mathlib.Core.Path.{◌∙◌}
-use borrow.Author.Rules.{rules}
+use Rattle.std.proofs.Common.{◌∙◌, rules}
 use Rattle.edition_2.proofs.SecondLaws.{tests_second, forces_second}
 use Rattle.edition_2.proofs.rows_second.Statement.{statement}
 use Rattle.edition_2.proofs.rows_second.Tie as tie

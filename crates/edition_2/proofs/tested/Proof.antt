@@ -1,7 +1,6 @@
 -- `edition_2::tested` meets its contract: what its calls say is the definition.
 -- Assumes nothing.
-use mathlib.Core.Path.{refl}
-use borrow.Author.Rules.{rules}
+use Rattle.std.proofs.Common.{refl, rules}
 use Rattle.planner.specs.Rows.{said_done}
 use Rattle.round_slacks.proofs.MoveLaws.{ends_empty}
 use Rattle.edition_2.proofs.SecondLaws.{test_second_lem}

@@ -1,6 +1,6 @@
 -- `edition_jobs::job_plan_in` meets its contract: the answer in parts, told.
 -- Assumes nothing.
-use borrow.Author.Rules.{rules}
+use Rattle.std.proofs.Common.{rules}
 use Rattle.editions.proofs.CountLaws.{plan_in_small}
 use Rattle.edition_jobs.proofs.JobLaws.{few_asked, told_whole}
 use Rattle.edition_jobs.proofs.job_plan_in.Statement.{statement}

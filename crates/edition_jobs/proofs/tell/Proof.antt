@@ -1,6 +1,6 @@
 -- `edition_jobs::tell` meets its contract: the numbers of the answer, and its rounds.
 -- Assumes nothing.
-use borrow.Author.Rules.{rules}
+use Rattle.std.proofs.Common.{rules}
 use Rattle.edition_jobs.proofs.JobLaws.{heard_whole}
 use Rattle.edition_jobs.proofs.tell.Statement.{statement}
 use Rattle.edition_jobs.proofs.tell.Tie as tie

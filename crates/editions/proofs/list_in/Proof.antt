@@ -1,7 +1,6 @@
 -- `editions::list_in` meets its contract: by the edition.
 -- Assumes nothing.
-use mathlib.Core.Path.{ap, ◌∙◌}
-use borrow.Author.Rules.{rules}
+use Rattle.std.proofs.Common.{ap, ◌∙◌, rules}
 use Rattle.edition_2.specs.Second.{unrounded}
 use Rattle.editions.proofs.StageLaws.{list_by_first, list_by_second}
 use Rattle.editions.proofs.list_in.Statement.{statement}

@@ -1,7 +1,6 @@
 -- `editions::list_second` meets its contract: the checks' refusal, or what the table is answered.
 -- Assumes nothing.
-use mathlib.Core.Path.{sym, ap, ◌∙◌}
-use borrow.Author.Rules.{rules}
+use Rattle.std.proofs.Common.{sym, ap, ◌∙◌, rules}
 use Rattle.table.proofs.TableLaws.{fine_legal}
 use Rattle.edition_2.specs.Second.{unrounded}
 use Rattle.editions.proofs.StageLaws.{list_fine, list_faulty}

@@ -1,7 +1,6 @@
 -- `editions::plan_in` meets its contract: by the edition.
 -- Assumes nothing.
-use mathlib.Core.Path.{ap, ◌∙◌}
-use borrow.Author.Rules.{rules}
+use Rattle.std.proofs.Common.{ap, ◌∙◌, rules}
 use Rattle.edition_2.specs.Second.{unrounded}
 use Rattle.editions.proofs.StageLaws.{plan_by_first, plan_by_second}
 use Rattle.editions.proofs.plan_in.Statement.{statement}

@@ -1,7 +1,6 @@
 -- `editions::room_second` meets its contract: 13 first, and then what the table is answered.
 -- Assumes nothing.
-use mathlib.Core.Path.{ap, ◌∙◌}
-use borrow.Author.Rules.{rules}
+use Rattle.std.proofs.Common.{ap, ◌∙◌, rules}
 use Rattle.edition_2.specs.Second.{unrounded}
 use Rattle.editions.proofs.StageLaws.{second_short, second_enough}
 use Rattle.editions.proofs.room_second.Statement.{statement}

@@ -1,10 +1,10 @@
 -- `entries::load_tasks` meets its contract: a walk of its MIR, by hand. The shared borrow is opened once;
 -- a turn copies one task out of the row and puts it into the array; and the borrow is shut after the loop.
 -- Assumes nothing.
+use Rattle.std.proofs.Common.{min}
 use types.Logic.{Logic}
 use denote.Slice.{shr_slice_vals}
 use denote.Ref.{Bor}
-use Prim.Native.Nat.{min}
 use Rattle.entries.proofs.Kit.{◌≡◌, refl, sym, ◌∙◌, ap, ℕ, ◌<◌, ◌+◌, zero-le, arith, Bool, true, false}
 use Rattle.entries.proofs.Kit.{[], ◌∷◌, List, length, set, get_or, Holds, ltb, lit<, ltb-true, ltb-false}
 use Rattle.entries.proofs.Kit.{Ura, full_share, Ty, named, imm, w64, ty_int, ty_bool, ty_ptr, ty_ref}

@@ -1,6 +1,6 @@
 -- `fewest::force_on` meets its contract: forcing of a table that is legal on other cores too.
 -- Assumes nothing.
-use mathlib.Core.Path.{refl, sym, ◌∙◌}
+use Rattle.std.proofs.Common.{refl, sym, ◌∙◌}
 use Rattle.planner.specs.declared.Job.TheVariants.{Force}
 use Rattle.planner.proofs.StageLaws.{forces_table}
 use Rattle.fewest.proofs.StageLaws.{legal_on}

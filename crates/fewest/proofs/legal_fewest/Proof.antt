@@ -1,8 +1,6 @@
 -- `fewest::legal_fewest` meets its contract. The loop's invariant: the fewest is above `low` and at most
 -- `high`. Assumes nothing.
-use Prim.Native.Nat.{◌-◌}
-use native.Mathlib.Omega.{arith}
-use borrow.Author.Rules.{rules}
+use Rattle.std.proofs.Common.{◌-◌, arith, rules}
 use borrow.Author.Tests.{not_true, not-false}
 use Rattle.fewest.proofs.HalvingLaws.{Between, halving_start, halving_down, halving_up, halving_end}
 use Rattle.fewest.proofs.HalvingLaws.{halving_none}

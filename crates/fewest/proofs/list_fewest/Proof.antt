@@ -1,7 +1,6 @@
 -- `fewest::list_fewest` meets its contract: the checks' refusal, or what the table is answered.
 -- Assumes nothing.
-use mathlib.Core.Path.{sym, ◌∙◌}
-use borrow.Author.Rules.{rules}
+use Rattle.std.proofs.Common.{sym, ◌∙◌, rules}
 use Rattle.table.proofs.TableLaws.{fine_legal}
 use Rattle.fewest.proofs.StageLaws.{list_fine, list_faulty}
 use Rattle.fewest.proofs.list_fewest.Statement.{statement}

@@ -1,6 +1,5 @@
 -- `fewest::refused` meets its contract. Assumes nothing.
-use mathlib.Core.Path.{ap}
-use borrow.Author.Rules.{rules}
+use Rattle.std.proofs.Common.{ap, rules}
 use Rattle.fewest.specs.Fewest.{found}
 use Rattle.fewest.proofs.refused.Statement.{statement}
 use Rattle.fewest.proofs.refused.Tie as tie

@@ -1,7 +1,6 @@
 -- `fewest::room_fewest` meets its contract: 13 first, and then what the table is answered.
 -- Assumes nothing.
-use mathlib.Core.Path.{◌∙◌}
-use borrow.Author.Rules.{rules}
+use Rattle.std.proofs.Common.{◌∙◌, rules}
 use Rattle.fewest.proofs.StageLaws.{room_short, room_enough}
 use Rattle.fewest.proofs.room_fewest.Statement.{statement}
 use Rattle.fewest.proofs.room_fewest.Tie as tie

@@ -1,8 +1,8 @@
 -- `fewest_jobs::fewest_plan` meets its contract: what was found by value, told.
 -- Assumes nothing.
+use Rattle.std.proofs.Common.{rules}
 use Rattle.fewest.proofs.CountLaws.{plan_small}
 use Rattle.fewest_jobs.proofs.TellLaws.{found_fits, plan_told}
-use borrow.Author.Rules.{rules}
 use Rattle.fewest_jobs.proofs.fewest_plan.Statement.{statement}
 use Rattle.fewest_jobs.proofs.fewest_plan.Tie as tie
 

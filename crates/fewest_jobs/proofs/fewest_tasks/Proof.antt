@@ -1,8 +1,8 @@
 -- `fewest_jobs::fewest_tasks` meets its contract: what was found by value, told.
 -- Assumes nothing.
+use Rattle.std.proofs.Common.{rules}
 use Rattle.fewest.proofs.CountLaws.{list_small}
 use Rattle.fewest_jobs.proofs.TellLaws.{found_fits, tasks_told}
-use borrow.Author.Rules.{rules}
 use Rattle.fewest_jobs.proofs.fewest_tasks.Statement.{statement}
 use Rattle.fewest_jobs.proofs.fewest_tasks.Tie as tie
 

@@ -1,6 +1,6 @@
 -- `fewest_jobs::tell` meets its contract: the numbers with the cores, then the records.
 -- Assumes nothing.
-use borrow.Author.Rules.{rules}
+use Rattle.std.proofs.Common.{rules}
 use Rattle.fewest_jobs.proofs.TellLaws.{told_whole}
 use Rattle.fewest_jobs.proofs.tell.Statement.{statement}
 use Rattle.fewest_jobs.proofs.tell.Tie as tie

@@ -1,6 +1,5 @@
 -- `fewest_listing::put_cores` meets its contract: the words of the line. Assumes nothing.
-use native.Mathlib.Omega.{arith}
-use borrow.Author.Rules.{rules}
+use Rattle.std.proofs.Common.{arith, rules}
 use Rattle.buffer.proofs.PutLaws.{put_then}
 use Rattle.fewest_listing.proofs.FoundLaws.{line_parts, line_length_lem}
 use Rattle.fewest_listing.proofs.put_cores.Statement.{statement}

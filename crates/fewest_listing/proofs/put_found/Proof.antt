@@ -1,6 +1,6 @@
 -- `fewest_listing::put_found` meets its contract: the cores and the accepted table's lines, or the refusal's
 -- one line. Assumes nothing.
-use borrow.Author.Rules.{rules}
+use Rattle.std.proofs.Common.{rules}
 use Rattle.buffer.proofs.PutLaws.{put_then}
 use Rattle.fewest_listing.proofs.FoundLaws.{cores_room, accepted_room, refused_room}
 use Rattle.fewest_listing.proofs.put_found.Statement.{statement}

@@ -1,6 +1,6 @@
 -- `fewest_listing::write_fewest` meets its contract: nothing where there is no room; else the reading's
 -- refusal, or what was found for its table. Assumes nothing.
-use borrow.Author.Rules.{rules}
+use Rattle.std.proofs.Common.{rules}
 use Rattle.listing.proofs.ListedLaws.{read_table}
 use Rattle.fewest_listing.proofs.ListedLaws.{
   listing_found,

@@ -1,9 +1,6 @@
 -- `flags::failing_of` meets its contract. The loop's invariant: the places passed are held.
 -- Assumes nothing.
-use Prim.Native.Nat.{◌-◌, ◌≤◌}
-use native.Mathlib.Omega.{arith}
-use mathlib.Core.Path.{◌≡◌, refl}
-use borrow.Author.Rules.{rules}
+use Rattle.std.proofs.Common.{◌-◌, ◌≤◌, arith, ◌≡◌, refl, rules}
 use Rattle.base.specs.Rows.{at}
 use Rattle.flags.specs.Flags.{held}
 use Rattle.flags.proofs.FlagLaws.{held_start, held_step, held_end}

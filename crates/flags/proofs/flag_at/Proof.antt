@@ -1,7 +1,6 @@
 -- `flags::flag_at` meets its contract: the bit at the place.
 -- Assumes nothing.
-use mathlib.Core.Path.{refl}
-use borrow.Author.Rules.{rules}
+use Rattle.std.proofs.Common.{refl, rules}
 use Rattle.flags.specs.Words.{bit, clear}
 use Rattle.flags.specs.Flags.{flag_in}
 use Rattle.flags.proofs.flag_at.Statement.{statement}

@@ -1,9 +1,6 @@
 -- `flags::flags_of` meets its contract. The loop's invariant: the places passed are held.
 -- Assumes nothing.
-use Prim.Native.Nat.{◌-◌, ◌≤◌}
-use native.Mathlib.Omega.{arith}
-use mathlib.Core.Path.{◌≡◌, sym}
-use borrow.Author.Rules.{rules}
+use Rattle.std.proofs.Common.{◌-◌, ◌≤◌, arith, ◌≡◌, sym, rules}
 use Rattle.base.specs.Rows.{at}
 use Rattle.table.specs.Table.{flags_of}
 use Rattle.table.proofs.TableLaws.{flags_at}

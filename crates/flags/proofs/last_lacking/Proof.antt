@@ -1,6 +1,6 @@
 -- `flags::last_lacking` meets its contract: the highest bit that is set.
 -- Assumes nothing.
-use borrow.Author.Rules.{rules}
+use Rattle.std.proofs.Common.{rules}
 use lib.Count.{leading_le}
 use Rattle.flags.specs.Flags.{flag_in}
 use Rattle.flags.proofs.OpLaws.{last_word}

@@ -1,6 +1,6 @@
 -- `flags::lowest_failing` meets its contract: the lowest bit that is set.
 -- Assumes nothing.
-use native.Mathlib.Omega.{arith}
+use Rattle.std.proofs.Common.{arith}
 use lib.Count.{trailing_le}
 use Rattle.flags.specs.Flags.{flag_in}
 use Rattle.flags.proofs.OpLaws.{lowest_zero, lowest_word}

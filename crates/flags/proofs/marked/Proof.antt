@@ -1,6 +1,6 @@
 -- `flags::marked` meets its contract: one bit more where x is 0, and the same bits where it is not.
 -- Assumes nothing.
-use borrow.Author.Rules.{rules}
+use Rattle.std.proofs.Common.{rules}
 use Rattle.flags.proofs.OpLaws.{mark_word, keep_word}
 use Rattle.flags.proofs.marked.Statement.{statement}
 use Rattle.flags.proofs.marked.Tie as tie

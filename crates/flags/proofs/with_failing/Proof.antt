@@ -1,7 +1,6 @@
 -- `flags::with_failing` meets its contract: or, place by place.
 -- Assumes nothing.
-use mathlib.Core.Path.{ap}
-use Prim.Native.Nat.{ℕ}
+use Rattle.std.proofs.Common.{ap, ℕ}
 use Rattle.flags.specs.Flags.{flag_in, held}
 use Rattle.flags.proofs.OpLaws.{or_word}
 use Rattle.flags.proofs.with_failing.Statement.{statement}

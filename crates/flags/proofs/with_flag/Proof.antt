@@ -1,8 +1,6 @@
 -- `flags::with_flag` meets its contract: its word is marked.
 -- Assumes nothing.
-use Prim.Native.Nat.{ℕ}
-use mathlib.Core.Path.{ap}
-use borrow.Author.Rules.{rules}
+use Rattle.std.proofs.Common.{ℕ, ap, rules}
 use Rattle.flags.specs.Flags.{flag_in, held}
 use Rattle.flags.proofs.with_flag.Statement.{statement}
 use Rattle.flags.proofs.with_flag.Tie as tie

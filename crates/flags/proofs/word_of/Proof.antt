@@ -1,6 +1,6 @@
 -- `flags::word_of` meets its contract: the first n bits of the word.
 -- Assumes nothing.
-use borrow.Author.Rules.{rules}
+use Rattle.std.proofs.Common.{rules}
 use Rattle.flags.specs.Flags.{flag_in}
 use Rattle.flags.proofs.OpLaws.{width_some, first_small, first_word}
 use Rattle.flags.proofs.word_of.Statement.{statement}

@@ -1,9 +1,7 @@
 -- `flat::put_record` meets its contract: three stores, one after the other.
 -- Assumes nothing.
-use native.Mathlib.Omega.{arith}
-use lib.ListN.{length-set}
+use Rattle.std.proofs.Common.{arith, length-set, rules}
 use Rattle.flat.proofs.FlatLaws.{record_put}
-use borrow.Author.Rules.{rules}
 use Rattle.flat.proofs.put_record.Statement.{statement}
 use Rattle.flat.proofs.put_record.Tie as tie
 

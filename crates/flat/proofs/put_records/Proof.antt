@@ -1,8 +1,6 @@
 -- `flat::put_records` meets its contract. The loop's invariant: the records passed are written.
 -- Assumes nothing.
-use Prim.Native.Nat.{◌-◌}
-use native.Mathlib.Omega.{arith}
-use borrow.Author.Rules.{rules}
+use Rattle.std.proofs.Common.{◌-◌, arith, rules}
 use Rattle.flat.proofs.FlatLaws.{Putting, putting_start, putting_length, putting_step, putting_end}
 use Rattle.flat.proofs.put_records.Statement.{statement}
 use Rattle.flat.proofs.put_records.Tie as tie

@@ -1,6 +1,6 @@
 -- `flat_tasks::count_in` meets its contract, by whether levels are given.
 -- Assumes nothing.
-use borrow.Author.Rules.{rules}
+use Rattle.std.proofs.Common.{rules}
 use Rattle.flat_tasks.specs.FlatTasks.{count_in}
 use Rattle.flat_tasks.proofs.count_in.Statement.{statement}
 use Rattle.flat_tasks.proofs.count_in.Tie as tie

@@ -1,6 +1,6 @@
 -- `flat_tasks::five_in` meets its contract: five numbers, one after the other.
 -- Assumes nothing.
-use borrow.Author.Rules.{rules}
+use Rattle.std.proofs.Common.{rules}
 use Rattle.flat_tasks.proofs.five_in.Statement.{statement}
 use Rattle.flat_tasks.proofs.five_in.Tie as tie
 

@@ -1,7 +1,7 @@
 -- `flat_tasks::fives_in` meets its contract, by whether the last task is whole.
 -- Assumes nothing.
+use Rattle.std.proofs.Common.{rules}
 use Rattle.flat_tasks.proofs.CountLaws.{count_whole, count_part}
-use borrow.Author.Rules.{rules}
 use Rattle.flat_tasks.proofs.fives_in.Statement.{statement}
 use Rattle.flat_tasks.proofs.fives_in.Tie as tie
 

@@ -1,6 +1,6 @@
 -- `flat_tasks::four_in` meets its contract: four numbers, one after the other, and the place.
 -- Assumes nothing.
-use borrow.Author.Rules.{rules}
+use Rattle.std.proofs.Common.{rules}
 use Rattle.flat_tasks.proofs.four_in.Statement.{statement}
 use Rattle.flat_tasks.proofs.four_in.Tie as tie
 

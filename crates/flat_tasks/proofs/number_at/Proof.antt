@@ -1,8 +1,7 @@
 -- `flat_tasks::number_at` meets its contract: past the end of a list stands 0.
 -- Assumes nothing.
-use mathlib.Core.Path.{sym}
-use lib.ListN.{get_or-eq_default}
-use borrow.Author.Rules.{rules}
+use Rattle.std.proofs.Common.{sym, rules}
+use Rattle.std.proofs.Math.ListN.{get_or-eq_default}
 use Rattle.flat_tasks.proofs.number_at.Statement.{statement}
 use Rattle.flat_tasks.proofs.number_at.Tie as tie
 

@@ -1,6 +1,6 @@
 -- `flat_tasks::task_in` meets its contract, by whether levels are given.
 -- Assumes nothing.
-use borrow.Author.Rules.{rules}
+use Rattle.std.proofs.Common.{rules}
 use Rattle.flat_tasks.specs.FlatTasks.{task_in}
 use Rattle.flat_tasks.proofs.task_in.Statement.{statement}
 use Rattle.flat_tasks.proofs.task_in.Tie as tie

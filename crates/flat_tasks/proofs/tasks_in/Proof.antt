@@ -1,10 +1,6 @@
 -- `flat_tasks::tasks_in` meets its contract. The loop's invariant: the tasks passed are filled in.
 -- Assumes nothing.
-use Prim.Native.Nat.{◌≤◌, ◌-◌}
-use native.Mathlib.Omega.{arith}
-use mathlib.Core.Path.{◌≡◌}
-use lib.ListN.{length}
-use borrow.Author.Rules.{rules}
+use Rattle.std.proofs.Common.{◌≤◌, ◌-◌, arith, ◌≡◌, length, rules}
 use Rattle.table.specs.Table.{no_task}
 use Rattle.base.specs.Rows.{row}
 use Rattle.base.proofs.RowLaws.{fill_start, fill_step, fill_end}

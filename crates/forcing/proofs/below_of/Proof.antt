@@ -1,9 +1,6 @@
 -- `forcing::below_of` meets its contract. The loop's invariant: the greatest level among the first i tasks.
 -- Assumes nothing.
-use Prim.Native.Nat.{◌-◌, ◌≤◌}
-use native.Mathlib.Omega.{arith}
-use mathlib.Core.Path.{◌≡◌, ap, ◌∙◌}
-use borrow.Author.Rules.{rules}
+use Rattle.std.proofs.Common.{◌-◌, ◌≤◌, arith, ◌≡◌, ap, ◌∙◌, rules}
 use Rattle.model.specs.Forcing.{lacks}
 use Rattle.flags.specs.Flags.{flag_in}
 use Rattle.rows.specs.Levels.{level_in}

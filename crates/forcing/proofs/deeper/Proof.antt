@@ -1,6 +1,6 @@
 -- `forcing::deeper` meets its contract: by the tests on the way.
 -- Assumes nothing.
-use native.Mathlib.Omega.{arith}
+use Rattle.std.proofs.Common.{arith}
 use Rattle.forcing.proofs.DeepLaws.{deepen_non, deepen_not, deepen_max}
 use Rattle.forcing.proofs.deeper.Statement.{statement}
 use Rattle.forcing.proofs.deeper.Tie as tie

@@ -2,9 +2,7 @@
 -- ends where it ends from the given ones, and each preemptive task stands at a q below which none is enough.
 -- The measure is the number of preemptive tasks: each pass but the last makes it smaller.
 -- Assumes nothing.
-use native.Mathlib.Omega.{arith}
-use mathlib.Core.Path.{refl}
-use borrow.Author.Rules.{rules}
+use Rattle.std.proofs.Common.{arith, refl, rules}
 use Rattle.base.specs.Sums.{sum_to}
 use Rattle.flags.specs.Flags.{flag_in}
 use Rattle.rows.specs.Levels.{level_in}

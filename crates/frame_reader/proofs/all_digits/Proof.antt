@@ -1,10 +1,6 @@
 -- `frame_reader::all_digits` meets its contract. The loop's invariant: no byte passed is no digit.
 -- Assumes nothing.
-use Prim.Native.Nat.{◌≤◌, ◌-◌}
-use native.Mathlib.Omega.{arith}
-use mathlib.Core.Path.{sym, ◌∙◌}
-use borrow.Author.Tests.{leb-true}
-use borrow.Author.Rules.{rules}
+use Rattle.std.proofs.Common.{◌≤◌, ◌-◌, arith, sym, ◌∙◌, leb-true, rules}
 use Rattle.base.proofs.FirstLaws.{NoneTo, find_start, find_step}
 use Rattle.frames.specs.Digits.{is_no_digit}
 use Rattle.frames.proofs.DigitLaws.{none_wrong, digits_wrong}

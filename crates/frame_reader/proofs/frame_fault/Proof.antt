@@ -1,13 +1,10 @@
 -- `frame_reader::frame_fault` meets its contract: each return is one of the faults, in document 01's words.
 -- Assumes nothing.
-use native.Mathlib.Omega.{arith}
-use mathlib.Core.Path.{sym, ap, ◌∙◌}
-use Prim.Native.Nat.{ℕ, ◌%◌}
+use Rattle.std.proofs.Common.{arith, sym, ap, ◌∙◌, ℕ, ◌%◌, rules}
 use borrow.Author.Tests.{not_true, not-false}
 use Rattle.frames.specs.Faults.{WholeLine, short, no_end, no_sum, no_kind}
 use Rattle.frames.proofs.DigitLaws.{digits_right}
 use Rattle.frames.proofs.FrameLaws.{digits_fault, wrong_frame, right_frame}
-use borrow.Author.Rules.{rules}
 use Rattle.frame_reader.proofs.frame_fault.Statement.{statement}
 use Rattle.frame_reader.proofs.frame_fault.Tie as tie
 

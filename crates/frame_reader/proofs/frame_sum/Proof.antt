@@ -1,9 +1,6 @@
 -- `frame_reader::frame_sum` meets its contract. The loop's invariant: the sum of the bytes passed.
 -- Assumes nothing.
-use Prim.Native.Nat.{◌≤◌, ◌-◌}
-use native.Mathlib.Omega.{arith}
-use mathlib.Core.Path.{◌≡◌}
-use borrow.Author.Rules.{rules}
+use Rattle.std.proofs.Common.{◌≤◌, ◌-◌, arith, ◌≡◌, rules}
 use Rattle.base.proofs.SumLaws.{sum_start, sum_step, sum_end}
 use Rattle.frames.specs.Frames.{frame_sum}
 use Rattle.frames.proofs.DigitLaws.{sum_fits}

@@ -1,8 +1,6 @@
 -- `frame_reader::no_digit` meets its contract: the table has each byte's digit value.
 -- Assumes nothing.
-use mathlib.Core.Path.{ap}
-use lib.Dec.{leb}
-use borrow.Author.Rules.{rules}
+use Rattle.std.proofs.Common.{ap, leb, rules}
 use Rattle.frames.proofs.DigitLaws.{table_digit}
 use Rattle.frame_reader.proofs.no_digit.Statement.{statement}
 use Rattle.frame_reader.proofs.no_digit.Tie as tie

@@ -1,6 +1,5 @@
 -- `frame_writer::letter` meets its contract, by the test of the definition. Assumes nothing.
-use borrow.Author.Rules.{rules}
-use borrow.Author.Tests.{lt-ltb, le-ltb}
+use Rattle.std.proofs.Common.{rules, lt-ltb, le-ltb}
 use Rattle.frames.specs.Digits.{digit_text}
 use Rattle.frame_writer.proofs.letter.Statement.{statement}
 use Rattle.frame_writer.proofs.letter.Tie as tie

@@ -1,7 +1,5 @@
 -- `frame_writer::put_byte` meets its contract: two bytes are stored. Assumes nothing.
-use native.Mathlib.Omega.{arith}
-use lib.ListN.{length-set}
-use borrow.Author.Rules.{rules}
+use Rattle.std.proofs.Common.{arith, length-set, rules}
 use Rattle.frame_writer.proofs.LineLaws.{byte_put}
 use Rattle.frame_writer.proofs.put_byte.Statement.{statement}
 use Rattle.frame_writer.proofs.put_byte.Tie as tie

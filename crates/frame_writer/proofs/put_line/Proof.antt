@@ -1,8 +1,6 @@
 -- `frame_writer::put_line` meets its contract: the bytes up to i are written and added up after i turns; then
 -- the check and 0A follow. Assumes nothing.
-use Prim.Native.Nat.{◌-◌}
-use native.Mathlib.Omega.{arith}
-use borrow.Author.Rules.{rules}
+use Rattle.std.proofs.Common.{◌-◌, arith, rules}
 use Rattle.buffer.proofs.PutLaws.{put_length}
 use Rattle.frame_writer.proofs.LineLaws.{
   Lining,

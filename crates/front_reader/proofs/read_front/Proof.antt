@@ -1,10 +1,9 @@
 -- `front_reader::read_front` meets its contract: the head line is refused, or the task lines are read on.
 -- Assumes nothing.
-use mathlib.Core.Path.{◌∙◌}
+use Rattle.std.proofs.Common.{◌∙◌, rules}
 use Rattle.lines.specs.Form.{form1}
 use Rattle.lines.proofs.FormLaws.{form1_sized}
 use Rattle.lines.proofs.ReadLaws.{head_unfit, head_fit, head_due}
-use borrow.Author.Rules.{rules}
 use Rattle.front_reader.proofs.read_front.Statement.{statement}
 use Rattle.front_reader.proofs.read_front.Tie as tie
 

@@ -1,10 +1,7 @@
 -- `front_reader::read_tasks` meets its contract. The loop's invariant: the lines passed are right, and
 -- stored.
 -- Assumes nothing.
-use Prim.Native.Nat.{◌-◌}
-use native.Mathlib.Omega.{arith}
-use borrow.Author.Rules.{rules}
-use mathlib.Core.Path.{◌∙◌}
+use Rattle.std.proofs.Common.{◌-◌, arith, rules, ◌∙◌}
 use Rattle.lines.specs.Form.{FormSized}
 use Rattle.lines.specs.Fields.{empty_table}
 use Rattle.lines.proofs.LineLaws.{tail_part}

@@ -1,6 +1,6 @@
 -- `jobs::job_plan` meets its contract: the answer in parts, told.
 -- Assumes nothing.
-use borrow.Author.Rules.{rules}
+use Rattle.std.proofs.Common.{rules}
 use Rattle.planner.proofs.CountLaws.{plan_small}
 use Rattle.jobs.proofs.JobLaws.{few_asked, told_whole}
 use Rattle.jobs.proofs.job_plan.Statement.{statement}

@@ -1,6 +1,6 @@
 -- `jobs::tell` meets its contract: the numbers of the answer.
 -- Assumes nothing.
-use borrow.Author.Rules.{rules}
+use Rattle.std.proofs.Common.{rules}
 use Rattle.jobs.proofs.JobLaws.{heard_whole}
 use Rattle.jobs.proofs.tell.Statement.{statement}
 use Rattle.jobs.proofs.tell.Tie as tie

@@ -1,11 +1,8 @@
 -- `largest::keep_largest` meets its contract. The loop's invariant: `count` numbers are kept, and no number
 -- left is above any of them.
 -- Assumes nothing.
-use Prim.Native.Nat.{ℕ, ◌-◌, ◌≤◌}
-use native.Mathlib.Omega.{arith}
-use mathlib.Core.Path.{◌≡◌, ap, ◌∙◌}
-use borrow.Author.Rules.{rules}
-use lib.ListN.{length, length-set, length-replicate}
+use Rattle.std.proofs.Common.{ℕ, ◌-◌, ◌≤◌, arith, ◌≡◌, ap, ◌∙◌, rules, length, length-set}
+use Rattle.std.proofs.Math.ListN.{length-replicate}
 use Rattle.base.specs.Rows.{at}
 use Rattle.largest.proofs.KeepLaws.{Keeping, keep_start, kept_full, kept_all}
 use Rattle.largest.proofs.LookLaws.{keep_step}

@@ -1,9 +1,7 @@
 -- `largest::largest_left` meets its contract. The loop's invariant: of the places passed, `most` is the
 -- largest number left, and stands at `place`.
 -- Assumes nothing.
-use Prim.Native.Nat.{◌-◌}
-use mathlib.Core.Logic.{⊎_elim}
-use borrow.Author.Rules.{rules}
+use Rattle.std.proofs.Common.{◌-◌, ⊎_elim, rules}
 use Rattle.base.specs.Rows.{at}
 use Rattle.largest.proofs.LookLaws.{Looking, look_start, look_past, look_more, look_end}
 use Rattle.largest.proofs.largest_left.Statement.{statement}

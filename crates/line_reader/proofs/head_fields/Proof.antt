@@ -1,7 +1,7 @@
 -- `line_reader::head_fields` meets its contract: three bytes, and no task.
 -- Assumes nothing.
+use Rattle.std.proofs.Common.{rules}
 use Rattle.lines.specs.Fields.{head_of}
-use borrow.Author.Rules.{rules}
 use Rattle.line_reader.proofs.head_fields.Statement.{statement}
 use Rattle.line_reader.proofs.head_fields.Tie as tie
 

@@ -1,16 +1,11 @@
 -- `line_reader::read_head` meets its contract: each return is a case of the line's first fault.
 -- Assumes nothing.
-use Prim.Native.Nat.{ℕ, ◌<◌}
-use native.Mathlib.Omega.{arith}
-use mathlib.Core.Path.{◌≡◌, sym, ap, ◌∙◌}
-use mathlib.Core.List.{List}
-use lib.ListN.{length, length-drop}
+use Rattle.std.proofs.Common.{ℕ, ◌<◌, arith, ◌≡◌, sym, ap, ◌∙◌, List, length, length-drop, rules}
 use Rattle.lines.specs.declared.Form.{Form}
 use Rattle.lines.specs.declared.HeadLine.TheVariants.{Fit, Unfit}
 use Rattle.lines.specs.Fields.{head_of, numbers_of, text_head, head_frame_fault, head_line_fault}
 use Rattle.lines.proofs.LineLaws.{tail_part, head_frame_fault_lem, part_long, answer_wrong, numbers_wrong}
 use Rattle.lines.proofs.LineLaws.{numbers_right}
-use borrow.Author.Rules.{rules}
 use Rattle.line_reader.proofs.read_head.Statement.{statement}
 use Rattle.line_reader.proofs.read_head.Tie as tie
 

@@ -1,17 +1,12 @@
 -- `line_reader::read_task` meets its contract: each return is a case of the line's first fault.
 -- Assumes nothing.
-use Prim.Native.Nat.{ℕ, ◌<◌}
-use native.Mathlib.Omega.{arith}
-use mathlib.Core.Path.{◌≡◌, sym, ap, ◌∙◌}
-use mathlib.Core.List.{List}
-use lib.ListN.{length, length-drop}
+use Rattle.std.proofs.Common.{ℕ, ◌<◌, arith, ◌≡◌, sym, ap, ◌∙◌, List, length, length-drop, rules}
 use Rattle.frames.specs.Digits.{Digits}
 use Rattle.lines.specs.declared.Form.{Form}
 use Rattle.lines.specs.declared.TaskLine.TheVariants.{Right, Wrong}
 use Rattle.lines.specs.Fields.{task_of, fields_part, task_frame_fault, task_line_fault}
 use Rattle.lines.proofs.LineLaws.{tail_part, task_frame_fault_lem, part_long, part_right, answer_wrong}
 use Rattle.lines.proofs.LineLaws.{fields_wrong, fields_right}
-use borrow.Author.Rules.{rules}
 use Rattle.line_reader.proofs.read_task.Statement.{statement}
 use Rattle.line_reader.proofs.read_task.Tie as tie
 

@@ -1,8 +1,7 @@
 -- `line_reader::task_fields` meets its contract: a byte and three words.
 -- Assumes nothing.
-use native.Mathlib.Omega.{arith}
+use Rattle.std.proofs.Common.{arith, rules}
 use Rattle.lines.specs.Fields.{task_of}
-use borrow.Author.Rules.{rules}
 use Rattle.line_reader.proofs.task_fields.Statement.{statement}
 use Rattle.line_reader.proofs.task_fields.Tie as tie
 

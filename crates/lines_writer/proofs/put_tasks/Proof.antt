@@ -1,8 +1,6 @@
 -- `lines_writer::put_tasks` meets its contract: after i turns the lines of the first i tasks are written,
 -- each into the rest of the buffer that is lent on. Assumes nothing.
-use Prim.Native.Nat.{◌-◌}
-use native.Mathlib.Omega.{arith}
-use borrow.Author.Rules.{rules}
+use Rattle.std.proofs.Common.{◌-◌, arith, rules}
 use Rattle.buffer.proofs.PutLaws.{put_length}
 use Rattle.lines_writer.proofs.RestLaws.{rest_room, put_rest}
 use Rattle.lines_writer.proofs.LoopLaws.{

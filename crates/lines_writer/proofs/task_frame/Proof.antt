@@ -1,6 +1,5 @@
 -- `lines_writer::task_frame` meets its contract: the bytes are those of the definition. Assumes nothing.
-use mathlib.Core.Path.{refl}
-use borrow.Author.Rules.{rules}
+use Rattle.std.proofs.Common.{refl, rules}
 use Rattle.frames.specs.Text.{word_bytes}
 use Rattle.lines.specs.Writes.{task_bytes}
 use Rattle.lines_writer.proofs.task_frame.Statement.{statement}

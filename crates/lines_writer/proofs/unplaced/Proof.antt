@@ -1,8 +1,6 @@
 -- `lines_writer::unplaced` meets its contract: after i turns the first i levels are the places. Assumes
 -- nothing.
-use Prim.Native.Nat.{◌-◌}
-use native.Mathlib.Omega.{arith}
-use borrow.Author.Rules.{rules}
+use Rattle.std.proofs.Common.{◌-◌, arith, rules}
 use Rattle.lines.proofs.LevelLaws.{Placing, placing_start, placing_step, placing_other, placing_end}
 use Rattle.lines_writer.proofs.unplaced.Statement.{statement}
 use Rattle.lines_writer.proofs.unplaced.Tie as tie

@@ -1,6 +1,6 @@
 -- `listing::force_text` meets its contract: the reading's refusal, or what forcing says of its table.
 -- Assumes nothing.
-use borrow.Author.Rules.{rules}
+use Rattle.std.proofs.Common.{rules}
 use Rattle.listing.proofs.ListedLaws.{read_table}
 use Rattle.listing.proofs.SentLaws.{sent_fine, sent_faulty}
 use Rattle.listing.proofs.force_text.Statement.{statement}

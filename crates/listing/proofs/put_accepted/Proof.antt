@@ -1,8 +1,5 @@
 -- `listing::put_accepted` meets its contract: line one, the tasks' lines, the last line. Assumes nothing.
-use native.Mathlib.Omega.{arith}
-use mathlib.Core.Path.{ap}
-use lib.ListN.{length}
-use borrow.Author.Rules.{rules}
+use Rattle.std.proofs.Common.{arith, ap, length, rules}
 use Rattle.listing_lines.specs.Lines.{last_line}
 use Rattle.listing.proofs.ListedLaws.{accepted_length, accepted_put}
 use Rattle.listing.proofs.put_accepted.Statement.{statement}

@@ -1,7 +1,6 @@
 -- `listing::put_done` meets its contract: an accepted table's lines, or the refusal's one line. Assumes
 -- nothing.
-use native.Mathlib.Omega.{arith}
-use borrow.Author.Rules.{rules}
+use Rattle.std.proofs.Common.{arith, rules}
 use Rattle.listing.proofs.put_done.Statement.{statement}
 use Rattle.listing.proofs.put_done.Tie as tie
 

@@ -1,8 +1,6 @@
 -- `listing::put_tasks` meets its contract: after i turns the lines of the first i tasks are written.
 -- Assumes nothing.
-use Prim.Native.Nat.{◌-◌}
-use native.Mathlib.Omega.{arith}
-use borrow.Author.Rules.{rules}
+use Rattle.std.proofs.Common.{◌-◌, arith, rules}
 use Rattle.buffer.proofs.PutLaws.{put_length}
 use Rattle.table.proofs.LoadLaws.{task_ranges}
 use Rattle.listing.proofs.TaskLaws.{Writing, writing_start, writing_room, writing_step, writing_end}

@@ -1,6 +1,6 @@
 -- `listing::write_listing` meets its contract: nothing where there is no room; else what is said of the text.
 -- Assumes nothing.
-use borrow.Author.Rules.{rules}
+use Rattle.std.proofs.Common.{rules}
 use Rattle.listing.proofs.ListedLaws.{listed_short, listed_put}
 use Rattle.listing.proofs.SentLaws.{sent_ready, sent_listing}
 use Rattle.listing.proofs.write_listing.Statement.{statement}

@@ -1,7 +1,6 @@
 -- `listing_lines::put_last` meets its contract: the words of the last line, one after the other.
 -- Assumes nothing.
-use native.Mathlib.Omega.{arith}
-use borrow.Author.Rules.{rules}
+use Rattle.std.proofs.Common.{arith, rules}
 use Rattle.buffer.proofs.PutLaws.{put_then}
 use Rattle.listing_lines.proofs.LineLaws.{last_parts, last_length}
 use Rattle.listing_lines.proofs.put_last.Statement.{statement}

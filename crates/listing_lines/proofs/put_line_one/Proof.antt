@@ -1,7 +1,6 @@
 -- `listing_lines::put_line_one` meets its contract: the words of line one, one after the other.
 -- Assumes nothing.
-use native.Mathlib.Omega.{arith}
-use borrow.Author.Rules.{rules}
+use Rattle.std.proofs.Common.{arith, rules}
 use Rattle.buffer.proofs.PutLaws.{put_then}
 use Rattle.listing_lines.proofs.LineLaws.{line_one_parts, line_one_length}
 use Rattle.listing_lines.proofs.put_line_one.Statement.{statement}

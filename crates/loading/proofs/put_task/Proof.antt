@@ -1,9 +1,6 @@
 -- `loading::put_task` meets its contract: a store in each row.
 -- Assumes nothing.
-use Prim.Native.Nat.{ℕ}
-use mathlib.Core.Path.{refl, ap}
-use lib.ListN.{set}
-use borrow.Author.Rules.{rules}
+use Rattle.std.proofs.Common.{ℕ, refl, ap, set, rules}
 use Rattle.loading.proofs.put_task.Statement.{statement}
 use Rattle.loading.proofs.put_task.Tie as tie
 

@@ -1,7 +1,6 @@
 -- `loads::task_load` meets its contract: it is the definition. Assumes nothing.
-use mathlib.Core.Path.{refl}
+use Rattle.std.proofs.Common.{refl, rules}
 use Rattle.table.specs.Load.{load}
-use borrow.Author.Rules.{rules}
 use Rattle.loads.proofs.task_load.Statement.{statement}
 use Rattle.loads.proofs.task_load.Tie as tie
 

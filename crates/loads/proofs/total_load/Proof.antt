@@ -1,8 +1,6 @@
 -- `loads::total_load` meets its contract: after i turns the total is that of the first i tasks.
 -- Assumes nothing.
-use Prim.Native.Nat.{◌-◌}
-use native.Mathlib.Omega.{arith}
-use borrow.Author.Rules.{rules}
+use Rattle.std.proofs.Common.{◌-◌, arith, rules}
 use Rattle.table.proofs.LoadLaws.{
   Adding,
   adding_start,

@@ -1,9 +1,6 @@
 -- `page::put_number` meets its contract: one digit, or the digits of n / 10 and then the last one; n falls.
 -- Assumes nothing.
-use Prim.Native.Nat.{ℕ, ◌<◌}
-use native.Mathlib.Omega.{arith}
-use mathlib.Core.Path.{◌∙◌}
-use borrow.Author.Rules.{rules}
+use Rattle.std.proofs.Common.{ℕ, ◌<◌, arith, ◌∙◌, rules}
 use Rattle.buffer.proofs.PutLaws.{put_length}
 use Rattle.page.proofs.NumberLaws.{room_small, room_more, number_small, number_more}
 use borrow.Fn.Kinds.{In}

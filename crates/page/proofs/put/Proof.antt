@@ -1,7 +1,5 @@
 -- `page::put` meets its contract: the bytes up to i are written after i turns. Assumes nothing.
-use Prim.Native.Nat.{◌-◌}
-use lib.ListN.{length}
-use borrow.Author.Rules.{rules}
+use Rattle.std.proofs.Common.{◌-◌, length, rules}
 use Rattle.buffer.proofs.PutLaws.{Putting, putting_start, putting_step, putting_end}
 use Rattle.page.proofs.put.Statement.{statement}
 use Rattle.page.proofs.put.Tie as tie

@@ -1,5 +1,5 @@
 -- `page::put_digit` meets its contract: one byte is stored. Assumes nothing.
-use borrow.Author.Rules.{rules}
+use Rattle.std.proofs.Common.{rules}
 use Rattle.buffer.proofs.PutLaws.{put_one}
 use Rattle.page.proofs.put_digit.Statement.{statement}
 use Rattle.page.proofs.put_digit.Tie as tie

@@ -1,8 +1,5 @@
 -- `page::put_either` meets its contract: each branch writes the word that the number picks. Assumes nothing.
-use native.Mathlib.Omega.{arith}
-use mathlib.Core.Path.{ap}
-use lib.ListN.{length}
-use borrow.Author.Rules.{rules}
+use Rattle.std.proofs.Common.{arith, ap, length, rules}
 use Rattle.page.proofs.WordLaws.{either_zero, either_other}
 use Rattle.page.proofs.put_either.Statement.{statement}
 use Rattle.page.proofs.put_either.Tie as tie

@@ -1,7 +1,5 @@
 -- `page::put_field` meets its contract: the word, and then the number after it. Assumes nothing.
-use native.Mathlib.Omega.{arith}
-use lib.ListN.{length-append}
-use borrow.Author.Rules.{rules}
+use Rattle.std.proofs.Common.{arith, length-append, rules}
 use Rattle.page.specs.Decimal.{decimal}
 use Rattle.buffer.proofs.PutLaws.{put_then, put_room}
 use Rattle.page.proofs.put_field.Statement.{statement}

@@ -1,6 +1,6 @@
 -- `passes::q_of` meets its contract: by the test on the way.
 -- Assumes nothing.
-use borrow.Author.Rules.{rules}
+use Rattle.std.proofs.Common.{rules}
 use Rattle.passes.proofs.OnwardLaws.{q_none, q_some}
 use Rattle.passes.proofs.q_of.Statement.{statement}
 use Rattle.passes.proofs.q_of.Tie as tie

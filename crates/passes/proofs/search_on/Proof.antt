@@ -1,11 +1,7 @@
 -- `passes::search_on` meets its contract. The loop's invariant: the first k tasks are searched, and the
 -- others stand where they stood.
 -- Assumes nothing.
-use Prim.Native.Nat.{◌-◌, ◌≤◌}
-use native.Mathlib.Omega.{arith}
-use mathlib.Core.Path.{refl}
-use mathlib.Core.Logic.{⊎_elim}
-use borrow.Author.Rules.{rules}
+use Rattle.std.proofs.Common.{◌-◌, ◌≤◌, arith, refl, ⊎_elim, rules}
 use Rattle.flags.specs.Flags.{flag_in}
 use Rattle.rows.specs.Levels.{level_in}
 use Rattle.rows.specs.Held.{system_in}

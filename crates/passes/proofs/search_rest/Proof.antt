@@ -1,10 +1,6 @@
 -- `passes::search_rest` meets its contract. The loop's invariant: the first k tasks have bounds.
 -- Assumes nothing.
-use Prim.Native.Nat.{◌-◌, ◌≤◌}
-use native.Mathlib.Omega.{arith}
-use mathlib.Core.Path.{◌∙◌}
-use mathlib.Core.Logic.{⊎_elim}
-use borrow.Author.Rules.{rules}
+use Rattle.std.proofs.Common.{◌-◌, ◌≤◌, arith, ◌∙◌, ⊎_elim, rules}
 use Rattle.flags.specs.Flags.{flag_in}
 use Rattle.rows.specs.Held.{system_in}
 use Rattle.bound.proofs.SearchLaws.{none_at_first}

@@ -1,6 +1,6 @@
 -- `passes::sought` meets its contract: by the flag, then by the level.
 -- Assumes nothing.
-use borrow.Author.Rules.{rules}
+use Rattle.std.proofs.Common.{rules}
 use Rattle.passes.proofs.PassLaws.{sought_not, sought_level}
 use Rattle.passes.proofs.sought.Statement.{statement}
 use Rattle.passes.proofs.sought.Tie as tie

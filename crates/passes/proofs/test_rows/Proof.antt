@@ -1,9 +1,6 @@
 -- `passes::test_rows` meets its contract. The loop's invariant: the row is filled up to task k.
 -- Assumes nothing.
-use Prim.Native.Nat.{◌-◌, ◌≤◌}
-use native.Mathlib.Omega.{arith}
-use mathlib.Core.Path.{◌≡◌, ◌∙◌}
-use borrow.Author.Rules.{rules}
+use Rattle.std.proofs.Common.{◌-◌, ◌≤◌, arith, ◌≡◌, ◌∙◌, rules}
 use Rattle.base.specs.Rows.{row}
 use Rattle.base.proofs.RowLaws.{fill_start, fill_step, fill_end}
 use Rattle.model.specs.Bound.{bound}

@@ -1,11 +1,7 @@
 -- `plan_printer::hear` meets its contract: the text is the part of the buffer that was read, and the listing
 -- of what is said of it fits. Assumes nothing.
-use Prim.Native.Nat.{ℕ}
-use native.Mathlib.Omega.{arith}
-use mathlib.Core.Path.{sym}
-use lib.ListN.{length-replicate}
-use lib.Seq.{length-take-le}
-use borrow.Author.Rules.{rules}
+use Rattle.std.proofs.Common.{ℕ, arith, sym, length-take-le, rules}
+use Rattle.std.proofs.Math.ListN.{length-replicate}
 use Rattle.listing.proofs.SentLaws.{sent_ready}
 use Rattle.plan_printer.proofs.hear.Statement.{statement}
 use Rattle.plan_printer.proofs.hear.Tie as tie

@@ -1,8 +1,5 @@
 -- `plan_printer::print` is safe: what is written is a part of the buffer. Assumes nothing.
-use native.Mathlib.Omega.{arith}
-use mathlib.Core.Path.{sym}
-use lib.Seq.{length-take-le}
-use borrow.Author.Rules.{rules}
+use Rattle.std.proofs.Common.{arith, sym, length-take-le, rules}
 use Rattle.buffer.proofs.PutLaws.{put_length}
 use Rattle.plan_printer.proofs.print.Statement.{statement}
 use Rattle.plan_printer.proofs.print.Tie as tie

@@ -1,9 +1,6 @@
 -- `plan_printer::read_text` is safe and ends, and its count lies within the buffer: each turn reads a byte.
 -- Assumes nothing.
-use Prim.Native.Nat.{◌≤◌, ◌-◌}
-use mathlib.Core.Path.{◌≡◌}
-use lib.ListN.{length}
-use borrow.Author.Rules.{rules}
+use Rattle.std.proofs.Common.{◌≤◌, ◌-◌, ◌≡◌, length, rules}
 use Rattle.plan_printer.proofs.read_text.Statement.{statement}
 use Rattle.plan_printer.proofs.read_text.Tie as tie
 

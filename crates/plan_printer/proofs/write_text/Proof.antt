@@ -1,7 +1,5 @@
 -- `plan_printer::write_text` is safe and ends: each turn writes a byte. Assumes nothing.
-use Prim.Native.Nat.{◌≤◌, ◌-◌}
-use lib.ListN.{length}
-use borrow.Author.Rules.{rules}
+use Rattle.std.proofs.Common.{◌≤◌, ◌-◌, length, rules}
 use Rattle.plan_printer.proofs.write_text.Statement.{statement}
 use Rattle.plan_printer.proofs.write_text.Tie as tie
 

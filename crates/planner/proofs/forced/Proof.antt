@@ -1,7 +1,6 @@
 -- `planner::forced` meets its contract: what its calls say is a case of the definition.
 -- Assumes nothing.
-use mathlib.Core.Path.{refl, ◌∙◌}
-use borrow.Author.Rules.{rules}
+use Rattle.std.proofs.Common.{refl, ◌∙◌, rules}
 use Rattle.planner.specs.Rows.{said_done}
 use Rattle.planner.proofs.StageLaws.{said_refused, force_refused, force_staged}
 use Rattle.planner.proofs.forced.Statement.{statement}

@@ -1,7 +1,6 @@
 -- `planner::legal_done` meets its contract: from the rows and the flags of the table, and then its records.
 -- Assumes nothing.
-use mathlib.Core.Path.{refl}
-use borrow.Author.Rules.{rules}
+use Rattle.std.proofs.Common.{refl, rules}
 use Rattle.rows.proofs.HeldLaws.{table_rows}
 use Rattle.forcing.proofs.TableLaws.{given_held}
 use Rattle.planner.proofs.StageLaws.{said_listed}

@@ -1,7 +1,6 @@
 -- `planner::list_done` meets its contract: the checks' refusal, or what the table is answered.
 -- Assumes nothing.
-use mathlib.Core.Path.{sym, ◌∙◌}
-use borrow.Author.Rules.{rules}
+use Rattle.std.proofs.Common.{sym, ◌∙◌, rules}
 use Rattle.table.proofs.TableLaws.{fine_legal}
 use Rattle.planner.proofs.StageLaws.{list_fine, list_faulty}
 use Rattle.planner.proofs.list_done.Statement.{statement}

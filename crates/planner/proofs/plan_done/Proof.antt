@@ -1,7 +1,6 @@
 -- `planner::plan_done` meets its contract: the reading's refusal, or what its table is answered.
 -- Assumes nothing.
-use mathlib.Core.Path.{sym, ap, subst, ◌∙◌}
-use borrow.Author.Rules.{rules}
+use Rattle.std.proofs.Common.{sym, ap, subst, ◌∙◌, rules}
 use Rattle.table.specs.Table.{LegalTable}
 use Rattle.lines.specs.declared.Reading.{Reading}
 use Rattle.lines.proofs.Theorems.{read_legal}

@@ -1,9 +1,6 @@
 -- `planner::records` meets its contract. The invariant: the first i places hold their records, the rest
 -- zeros. Assumes nothing.
-use Prim.Native.Nat.{◌≤◌, ◌-◌}
-use native.Mathlib.Omega.{arith}
-use mathlib.Core.Path.{◌≡◌}
-use borrow.Author.Rules.{rules}
+use Rattle.std.proofs.Common.{◌≤◌, ◌-◌, arith, ◌≡◌, rules}
 use Rattle.base.specs.Rows.{at}
 use Rattle.base.proofs.RowLaws.{fill_start, fill_end}
 use Rattle.flags.specs.Flags.{flag_in}

@@ -1,7 +1,6 @@
 -- `planner::room_done` meets its contract: 13 first, and then what the table is answered.
 -- Assumes nothing.
-use mathlib.Core.Path.{◌∙◌}
-use borrow.Author.Rules.{rules}
+use Rattle.std.proofs.Common.{◌∙◌, rules}
 use Rattle.planner.proofs.StageLaws.{room_short, room_enough}
 use Rattle.planner.proofs.room_done.Statement.{statement}
 use Rattle.planner.proofs.room_done.Tie as tie

@@ -1,7 +1,6 @@
 -- `planner::rows_said` meets its contract, by the job.
 -- Assumes nothing.
-use mathlib.Core.Path.{◌∙◌}
-use borrow.Author.Rules.{rules}
+use Rattle.std.proofs.Common.{◌∙◌, rules}
 use Rattle.planner.proofs.StageLaws.{tests_table, forces_table}
 use Rattle.planner.proofs.rows_said.Statement.{statement}
 use Rattle.planner.proofs.rows_said.Tie as tie

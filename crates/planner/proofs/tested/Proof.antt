@@ -1,7 +1,6 @@
 -- `planner::tested` meets its contract: what its calls say is the definition.
 -- Assumes nothing.
-use mathlib.Core.Path.{refl}
-use borrow.Author.Rules.{rules}
+use Rattle.std.proofs.Common.{refl, rules}
 use Rattle.planner.specs.Rows.{said_done}
 use Rattle.planner.proofs.StageLaws.{test_staged}
 use Rattle.planner.proofs.tested.Statement.{statement}

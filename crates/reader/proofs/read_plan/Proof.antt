@@ -1,9 +1,7 @@
 -- `reader::read_plan` meets its contract: the front's refusal, 12 where the text goes on, or its table.
 -- Assumes nothing.
-use native.Mathlib.Omega.{arith}
-use mathlib.Core.Path.{◌∙◌}
+use Rattle.std.proofs.Common.{arith, ◌∙◌, rules}
 use Rattle.lines.proofs.ReadLaws.{plan_count, plan_stopped, plan_more, plan_read}
-use borrow.Author.Rules.{rules}
 use Rattle.reader.proofs.read_plan.Statement.{statement}
 use Rattle.reader.proofs.read_plan.Tie as tie
 

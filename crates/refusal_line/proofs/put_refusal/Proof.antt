@@ -1,8 +1,6 @@
 -- `refusal_line::put_refusal` meets its contract: number and place, and for 14 and 15 the passes.
 -- Assumes nothing.
-use native.Mathlib.Omega.{arith}
-use mathlib.Core.Path.{sym, ◌∙◌}
-use borrow.Author.Rules.{rules}
+use Rattle.std.proofs.Common.{arith, sym, ◌∙◌, rules}
 use Rattle.buffer.proofs.PutLaws.{put_then}
 use Rattle.listing_lines.proofs.LineLaws.{
   refusal_parts,

@@ -1,9 +1,7 @@
 -- `risen::add_kept` meets its contract. The loop's invariant: the sums are those of the places passed, whose
 -- growths are raised.
 -- Assumes nothing.
-use Prim.Native.Nat.{◌-◌}
-use native.Mathlib.Omega.{arith}
-use borrow.Author.Rules.{rules}
+use Rattle.std.proofs.Common.{◌-◌, arith, rules}
 use Rattle.risen.proofs.AddLaws.{Adding, adding_start, adding_fits, adding_step, adding_end}
 use Rattle.risen.proofs.add_kept.Statement.{statement}
 use Rattle.risen.proofs.add_kept.Tie as tie

@@ -1,6 +1,6 @@
 -- `risen::add_risen` meets its contract: what is kept of the numbers at q is what the m largest come to.
 -- Assumes nothing.
-use borrow.Author.Rules.{rules}
+use Rattle.std.proofs.Common.{rules}
 use Rattle.risen.proofs.RisenLaws.{risen_addable, risen_added}
 use Rattle.risen.proofs.add_risen.Statement.{statement}
 use Rattle.risen.proofs.add_risen.Tie as tie

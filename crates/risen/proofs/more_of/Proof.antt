@@ -1,7 +1,6 @@
 -- `risen::more_of` meets its contract: the test on the way picks the line of `more_of`.
 -- Assumes nothing.
-use Prim.Native.Nat.{◌-◌}
-use borrow.Author.Rules.{rules}
+use Rattle.std.proofs.Common.{◌-◌, rules}
 use Rattle.risen.proofs.AddLaws.{more_none, more_some}
 use Rattle.risen.proofs.more_of.Statement.{statement}
 use Rattle.risen.proofs.more_of.Tie as tie

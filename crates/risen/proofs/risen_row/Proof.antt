@@ -1,8 +1,6 @@
 -- `risen::risen_row` meets its contract. The loop's invariant: the places passed hold what they put up.
 -- Assumes nothing.
-use Prim.Native.Nat.{◌-◌, ◌≤◌}
-use native.Mathlib.Omega.{arith}
-use borrow.Author.Rules.{rules}
+use Rattle.std.proofs.Common.{◌-◌, ◌≤◌, arith, rules}
 use Rattle.rows.proofs.FillLaws.{Filled, filled_start, filled_step}
 use Rattle.risen.specs.Risen.{risen_at}
 use Rattle.risen.proofs.risen_row.Statement.{statement}

@@ -1,8 +1,7 @@
 -- `risen_search::least_risen` meets its contract. The loop's invariant: no q before this one is enough; the
 -- measure is what is left of the range.
 -- Assumes nothing.
-use Prim.Native.Nat.{◌+◌, ◌-◌}
-use native.Mathlib.Omega.{arith}
+use Rattle.std.proofs.Common.{◌+◌, ◌-◌, arith}
 use Rattle.search.proofs.ClimbLaws.{Climbing, climb_none, climb_small, climb_found, climb_over, climb_up}
 use Rattle.search.proofs.ClimbLaws.{climb_on}
 use Rattle.search.proofs.SearchLaws.{Roomy, roomy_start, seek_evaluable}

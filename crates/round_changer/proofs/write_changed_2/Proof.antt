@@ -1,6 +1,6 @@
 -- `round_changer::write_changed_2` meets its contract: the reading's refusal, or what is written of forcing's
 -- answer. Assumes nothing.
-use borrow.Author.Rules.{rules}
+use Rattle.std.proofs.Common.{rules}
 use Rattle.changer.proofs.ChangeLaws.{text_legal}
 use Rattle.round_changer.proofs.RoundChangeLaws.{text_forced, text_faulty}
 use Rattle.round_changer.proofs.write_changed_2.Statement.{statement}

@@ -1,10 +1,7 @@
 -- `round_force::first_preemptive` meets its contract. The loop's invariant: none of the places passed is
 -- preemptive.
 -- Assumes nothing.
-use Prim.Native.Nat.{◌-◌, ◌≤◌}
-use native.Mathlib.Omega.{arith}
-use borrow.Author.Rules.{rules}
-use lib.Dec.{ltb}
+use Rattle.std.proofs.Common.{◌-◌, ◌≤◌, arith, rules, ltb}
 use Rattle.base.proofs.FirstLaws.{NoneTo, find_start, find_step, find_here, find_none}
 use Rattle.flags.specs.Flags.{flag_in}
 use Rattle.round_force.specs.Forced2.{first_in}

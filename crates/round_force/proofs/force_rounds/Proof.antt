@@ -2,9 +2,7 @@
 -- forcing ends where it ends from the given ones. The measure is the number of preemptive tasks: each test
 -- but the last makes it smaller.
 -- Assumes nothing.
-use native.Mathlib.Omega.{arith}
-use mathlib.Core.Logic.{inl, inr}
-use borrow.Author.Rules.{rules}
+use Rattle.std.proofs.Common.{arith, inl, inr, rules}
 use Rattle.base.specs.Sums.{sum_to}
 use Rattle.flags.specs.Flags.{flag_in}
 use Rattle.rows.specs.Held.{system_in}

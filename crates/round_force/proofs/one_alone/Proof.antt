@@ -1,7 +1,6 @@
 -- `round_force::one_alone` meets its contract: a row of ones with one 0.
 -- Assumes nothing.
-use mathlib.Core.Path.{◌∙◌}
-use borrow.Author.Rules.{rules}
+use Rattle.std.proofs.Common.{◌∙◌, rules}
 use Rattle.round_force.proofs.ChangeLaws.{alone_held}
 use Rattle.round_force.proofs.one_alone.Statement.{statement}
 use Rattle.round_force.proofs.one_alone.Tie as tie

@@ -1,6 +1,6 @@
 -- `round_force::to_force` meets its contract, by whether a preemptive task lacks a bound.
 -- Assumes nothing.
-use borrow.Author.Rules.{rules}
+use Rattle.std.proofs.Common.{rules}
 use Rattle.round_force.proofs.ChangeLaws.{force_first, force_failing}
 use Rattle.round_force.proofs.to_force.Statement.{statement}
 use Rattle.round_force.proofs.to_force.Tie as tie

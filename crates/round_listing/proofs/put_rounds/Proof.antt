@@ -1,6 +1,5 @@
 -- `round_listing::put_rounds` meets its contract: the word, the number and the 0A. Assumes nothing.
-use native.Mathlib.Omega.{arith}
-use borrow.Author.Rules.{rules}
+use Rattle.std.proofs.Common.{arith, rules}
 use Rattle.buffer.proofs.PutLaws.{put_then}
 use Rattle.round_listing.proofs.GainLaws.{rounds_parts, rounds_length}
 use Rattle.round_listing.proofs.put_rounds.Statement.{statement}

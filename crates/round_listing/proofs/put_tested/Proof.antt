@@ -1,6 +1,6 @@
 -- `round_listing::put_tested` meets its contract: the listing, and its last line gains the rounds.
 -- Assumes nothing.
-use borrow.Author.Rules.{rules}
+use Rattle.std.proofs.Common.{rules}
 use Rattle.round_listing.proofs.GainLaws.{some_tested, gain_ready, gained_put, gained_none}
 use Rattle.round_listing.proofs.put_tested.Statement.{statement}
 use Rattle.round_listing.proofs.put_tested.Tie as tie

@@ -1,6 +1,6 @@
 -- `round_listing::write_listing_2` meets its contract: nothing where there is no room; else the reading's
 -- refusal, or what edition 2 says of its table. Assumes nothing.
-use borrow.Author.Rules.{rules}
+use Rattle.std.proofs.Common.{rules}
 use Rattle.listing.proofs.ListedLaws.{read_table, refusal_ready, listed_short, listed_put}
 use Rattle.round_listing.proofs.FitLaws.{forced_ready}
 use Rattle.round_listing.proofs.RoundLaws.{listing_done, listing_faulty}

@@ -1,9 +1,7 @@
 -- `round_slacks::move_slacks` meets its contract. The loop's invariant: the first k tasks have their new
 -- slacks.
 -- Assumes nothing.
-use Prim.Native.Nat.{◌-◌, ◌≤◌}
-use native.Mathlib.Omega.{arith}
-use borrow.Author.Rules.{rules}
+use Rattle.std.proofs.Common.{◌-◌, ◌≤◌, arith, rules}
 use Rattle.round_slacks.proofs.MoveLaws.{Moving, moving_start, moving_room, moving_step, moving_end}
 use Rattle.round_slacks.proofs.move_slacks.Statement.{statement}
 use Rattle.round_slacks.proofs.move_slacks.Tie as tie

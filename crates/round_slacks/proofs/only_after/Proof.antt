@@ -1,6 +1,6 @@
 -- `round_slacks::only_after` meets its contract, by the cases.
 -- Assumes nothing.
-use borrow.Author.Rules.{rules}
+use Rattle.std.proofs.Common.{rules}
 use Rattle.round_slacks.proofs.OnlyLaws.{only_kept, only_first, only_more}
 use Rattle.round_slacks.proofs.only_after.Statement.{statement}
 use Rattle.round_slacks.proofs.only_after.Tie as tie

@@ -1,6 +1,6 @@
 -- `round_slacks::slack_after` meets its contract, by the bound.
 -- Assumes nothing.
-use borrow.Author.Rules.{rules}
+use Rattle.std.proofs.Common.{rules}
 use Rattle.round_slacks.proofs.MoveLaws.{slack_kept, slack_new}
 use Rattle.round_slacks.proofs.slack_after.Statement.{statement}
 use Rattle.round_slacks.proofs.slack_after.Tie as tie

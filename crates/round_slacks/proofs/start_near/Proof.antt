@@ -1,9 +1,6 @@
 -- `round_slacks::start_near` meets its contract. The loop's invariant: the row is filled up to task k.
 -- Assumes nothing.
-use Prim.Native.Nat.{◌-◌, ◌≤◌}
-use native.Mathlib.Omega.{arith}
-use mathlib.Core.Path.{◌≡◌, refl}
-use borrow.Author.Rules.{rules}
+use Rattle.std.proofs.Common.{◌-◌, ◌≤◌, arith, ◌≡◌, refl, rules}
 use Rattle.base.specs.Rows.{at, row}
 use Rattle.base.proofs.RowLaws.{fill_start, fill_step, fill_end}
 use Rattle.round_slacks.proofs.start_near.Statement.{statement}

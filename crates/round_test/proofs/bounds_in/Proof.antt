@@ -1,12 +1,7 @@
 -- `round_test::bounds_in` meets its contract. The loop's invariant: the first k places hold this round's
 -- bounds, the others what they held.
 -- Assumes nothing.
-use Prim.Native.Nat.{◌-◌, ◌≤◌, ◌<◌}
-use native.Mathlib.Omega.{arith}
-use native.Mathlib.Nat.{le_refl}
-use mathlib.Core.Path.{sym, ◌∙◌}
-use mathlib.Core.Logic.{⊎_elim}
-use borrow.Author.Rules.{rules}
+use Rattle.std.proofs.Common.{◌-◌, ◌≤◌, ◌<◌, arith, le_refl, sym, ◌∙◌, ⊎_elim, rules}
 use Rattle.base.specs.Rows.{at}
 use Rattle.model.specs.Bound.{under, bound}
 use Rattle.flags.specs.Flags.{flag_in}

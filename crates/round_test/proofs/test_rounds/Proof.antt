@@ -1,8 +1,7 @@
 -- `round_test::test_rounds` meets its contract. The loop's invariant: from these slacks on, the rounds end as
 -- they do from the start. The measure is the room that the slacks leave: each round but the last takes some.
 -- Assumes nothing.
-use native.Mathlib.Omega.{arith}
-use mathlib.Core.Path.{refl}
+use Rattle.std.proofs.Common.{arith, refl}
 use Rattle.rows.specs.Held.{system_in}
 use Rattle.round_test.proofs.TurnLaws.{Turning, room_left, turning_start, turning_rows, turning_small}
 use Rattle.round_test.proofs.TurnLaws.{turning_moves, turning_done, turning_more, turning_falls}

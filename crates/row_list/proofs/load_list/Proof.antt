@@ -1,9 +1,6 @@
 -- `row_list::load_list` meets its contract. The loop's invariant: the tasks passed are right, and loaded.
 -- Assumes nothing.
-use Prim.Native.Nat.{◌-◌}
-use native.Mathlib.Omega.{arith}
-use mathlib.Core.Path.{refl}
-use borrow.Author.Rules.{rules}
+use Rattle.std.proofs.Common.{◌-◌, arith, refl, rules}
 use Rattle.loading.proofs.LoadLaws.{loading_refused}
 use Rattle.row_list.proofs.ListLaws.{ListRead, head_wrong, list_start, list_small, task_wrong}
 use Rattle.row_list.proofs.ListLaws.{task_right, list_step, list_end}

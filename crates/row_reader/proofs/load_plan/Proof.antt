@@ -1,6 +1,6 @@
 -- `row_reader::load_plan` meets its contract: the head line is refused, or the task lines are loaded on.
 -- Assumes nothing.
-use borrow.Author.Rules.{rules}
+use Rattle.std.proofs.Common.{rules}
 use Rattle.lines.specs.Form.{form1}
 use Rattle.lines.specs.Reads.{read_of}
 use Rattle.lines.proofs.FormLaws.{form1_sized}

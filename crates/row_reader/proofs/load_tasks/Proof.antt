@@ -1,9 +1,6 @@
 -- `row_reader::load_tasks` meets its contract. The loop's invariant: the lines passed are right, and loaded.
 -- Assumes nothing.
-use Prim.Native.Nat.{◌-◌}
-use native.Mathlib.Omega.{arith}
-use mathlib.Core.Path.{refl}
-use borrow.Author.Rules.{rules}
+use Rattle.std.proofs.Common.{◌-◌, arith, refl, rules}
 use Rattle.lines.specs.Form.{FormSized}
 use Rattle.lines.specs.Fields.{empty_table}
 use Rattle.lines.proofs.LineLaws.{tail_part}

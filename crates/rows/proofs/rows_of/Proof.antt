@@ -1,9 +1,6 @@
 -- `rows::rows_of` meets its contract. The loop's invariant: the rows hold the first i tasks.
 -- Assumes nothing.
-use Prim.Native.Nat.{◌-◌, ◌≤◌}
-use native.Mathlib.Omega.{arith}
-use mathlib.Core.Path.{refl}
-use borrow.Author.Rules.{rules}
+use Rattle.std.proofs.Common.{◌-◌, ◌≤◌, arith, refl, rules}
 use Rattle.rows.specs.Levels.{LevelsTo}
 use Rattle.rows.specs.Held.{RowsTo}
 use Rattle.rows.proofs.HeldLaws.{fill_none, fill_more, fill_all}

@@ -1,8 +1,7 @@
 -- `search::least_q` meets its contract: no range, fewer shares than cores, a first q of its own, or a given
 -- one.
 -- Assumes nothing.
-use native.Mathlib.Omega.{arith}
-use borrow.Author.Rules.{rules}
+use Rattle.std.proofs.Common.{arith, rules}
 use Rattle.search.proofs.StartLaws.{start_none, fewer_shares, no_range}
 use Rattle.search.proofs.least_q.Statement.{statement}
 use Rattle.search.proofs.least_q.Tie as tie

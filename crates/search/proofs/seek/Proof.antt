@@ -1,8 +1,7 @@
 -- `search::seek` meets its contract. The loop's invariant: no q before this one is enough; the measure is
 -- what is left of the range.
 -- Assumes nothing.
-use Prim.Native.Nat.{◌+◌, ◌-◌}
-use native.Mathlib.Omega.{arith}
+use Rattle.std.proofs.Common.{◌+◌, ◌-◌, arith}
 use Rattle.search.proofs.ClimbLaws.{Climbing, climb_none, climb_small, climb_found, climb_over}
 use Rattle.search.proofs.ClimbLaws.{climb_up, climb_on}
 use Rattle.search.proofs.SearchLaws.{sum_at, Roomy, roomy_start, seek_start, seek_least}

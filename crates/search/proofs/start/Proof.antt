@@ -1,8 +1,6 @@
 -- `search::start` meets its contract. The loop's invariant: row and sum are those of the places passed.
 -- Assumes nothing.
-use Prim.Native.Nat.{◌-◌}
-use native.Mathlib.Omega.{arith}
-use borrow.Author.Rules.{rules}
+use Rattle.std.proofs.Common.{◌-◌, arith, rules}
 use Rattle.search.proofs.StartLaws.{Starting, start_start, start_fits, start_step}
 use Rattle.search.proofs.StartLaws.{start_over, start_end}
 use Rattle.search.proofs.start.Statement.{statement}

@@ -1,6 +1,6 @@
 -- `shares::evaluate` meets its contract: first the works, then the shares.
 -- Assumes nothing.
-use borrow.Author.Rules.{rules}
+use Rattle.std.proofs.Common.{rules}
 use Rattle.shares.proofs.EvaluateLaws.{evaluated}
 use Rattle.shares.proofs.evaluate.Statement.{statement}
 use Rattle.shares.proofs.evaluate.Tie as tie

@@ -1,8 +1,6 @@
 -- `shares::full_of` meets its contract, by whether the task ever pauses.
 -- Assumes nothing.
-use Prim.Native.Nat.{ℕ, zero, suc, ◌+◌, ◌*◌}
-use mathlib.Core.Path.{◌≡◌, refl}
-use borrow.Author.Rules.{rules}
+use Rattle.std.proofs.Common.{ℕ, zero, suc, ◌+◌, ◌*◌, ◌≡◌, refl, rules}
 use Rattle.shares.specs.Shares.{full_of}
 use Rattle.shares.proofs.full_of.Statement.{statement}
 use Rattle.shares.proofs.full_of.Tie as tie

@@ -1,9 +1,7 @@
 -- `shares::share_row` meets its contract. The loop's invariant: the sums are those of the places passed, and
 -- so is the row; the rest of it is as it was.
 -- Assumes nothing.
-use Prim.Native.Nat.{◌-◌}
-use native.Mathlib.Omega.{arith}
-use borrow.Author.Rules.{rules}
+use Rattle.std.proofs.Common.{◌-◌, arith, rules}
 use Rattle.shares.proofs.RowLaws.{Sharing, share_start, share_fits, share_step, share_end}
 use Rattle.shares.proofs.share_row.Statement.{statement}
 use Rattle.shares.proofs.share_row.Tie as tie

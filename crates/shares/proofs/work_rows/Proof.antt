@@ -1,8 +1,6 @@
 -- `shares::work_rows` meets its contract. The loop's invariant: the entries of the places passed are filled.
 -- Assumes nothing.
-use Prim.Native.Nat.{◌-◌, ◌≤◌}
-use native.Mathlib.Omega.{arith}
-use borrow.Author.Rules.{rules}
+use Rattle.std.proofs.Common.{◌-◌, ◌≤◌, arith, rules}
 use Rattle.shares.specs.Rows.{WorkRows}
 use Rattle.shares.proofs.RowLaws.{work_start, window_at, inverse_at, work_fits, work_step, work_end}
 use Rattle.shares.proofs.work_rows.Statement.{statement}

@@ -1,9 +1,7 @@
 -- `slack_bound::bound_under` meets its contract: the least q under the caps, past the differences, gives the
 -- bound.
 -- Assumes nothing.
-use native.Mathlib.Omega.{arith}
-use mathlib.Core.Path.{refl, sym}
-use borrow.Author.Rules.{rules}
+use Rattle.std.proofs.Common.{arith, refl, sym, rules}
 use Rattle.flags.specs.Flags.{flag_in}
 use Rattle.slack_bound.proofs.UnderLaws.{nothing_below, under_none, under_searchable, all_least}
 use Rattle.slack_bound.proofs.UnderLaws.{bound_none, bound_found, bound_small}

@@ -1,8 +1,7 @@
 -- `slack_bound::past_differences` meets its contract: where no task differs the least q stays, else the
 -- search goes on from it.
 -- Assumes nothing.
-use native.Mathlib.Omega.{arith}
-use borrow.Author.Rules.{rules}
+use Rattle.std.proofs.Common.{arith, rules}
 use Rattle.flags.specs.Flags.{flag_in}
 use Rattle.slack_bound.proofs.UnderLaws.{under_differable, past_below, past_plain, past_risen}
 use Rattle.slack_bound.proofs.past_differences.Statement.{statement}

@@ -1,9 +1,7 @@
 -- `slack_caps::add_caps_under` meets its contract. The loop's invariant: the places passed have their caps
 -- besides what they held.
 -- Assumes nothing.
-use Prim.Native.Nat.{◌+◌, ◌-◌, ◌≤◌}
-use native.Mathlib.Omega.{arith}
-use borrow.Author.Rules.{rules}
+use Rattle.std.proofs.Common.{◌+◌, ◌-◌, ◌≤◌, arith, rules}
 use Rattle.base.specs.Rows.{at}
 use Rattle.model.specs.Bound.{under}
 use Rattle.table.specs.Table.{policy_of}

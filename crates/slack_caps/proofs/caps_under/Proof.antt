@@ -1,7 +1,7 @@
 -- `slack_caps::caps_under` meets its contract: the candidates kept and the caps added are the caps of task k
 -- under its slacks.
 -- Assumes nothing.
-use borrow.Author.Rules.{rules}
+use Rattle.std.proofs.Common.{rules}
 use Rattle.caps.proofs.MadeLaws.{rows_kept}
 use Rattle.slack_caps.proofs.SlackCapLaws.{slack_rows_caps}
 use Rattle.slack_caps.proofs.caps_under.Statement.{statement}

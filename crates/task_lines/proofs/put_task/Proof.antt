@@ -1,7 +1,6 @@
 -- `task_lines::put_task` meets its contract: the words of a task's line, one after the other.
 -- Assumes nothing.
-use native.Mathlib.Omega.{arith}
-use borrow.Author.Rules.{rules}
+use Rattle.std.proofs.Common.{arith, rules}
 use Rattle.buffer.proofs.PutLaws.{put_then}
 use Rattle.task_lines.proofs.TaskLaws.{task_parts, task_length}
 use Rattle.task_lines.proofs.put_task.Statement.{statement}

@@ -1,6 +1,5 @@
 -- `task_lines::put_task_start` meets its contract: its words, one after the other. Assumes nothing.
-use native.Mathlib.Omega.{arith}
-use borrow.Author.Rules.{rules}
+use Rattle.std.proofs.Common.{arith, rules}
 use Rattle.buffer.proofs.PutLaws.{put_then}
 use Rattle.task_lines.proofs.TaskLaws.{start_parts, start_length}
 use Rattle.task_lines.proofs.put_task_start.Statement.{statement}

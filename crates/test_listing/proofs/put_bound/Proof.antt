@@ -1,8 +1,5 @@
 -- `test_listing::put_bound` meets its contract: none for 0, else the bound. Assumes nothing.
-use native.Mathlib.Omega.{arith}
-use mathlib.Core.Path.{ap}
-use lib.ListN.{length}
-use borrow.Author.Rules.{rules}
+use Rattle.std.proofs.Common.{arith, ap, length, rules}
 use Rattle.test_listing.proofs.LineLaws.{bound_none, bound_some}
 use Rattle.test_listing.proofs.put_bound.Statement.{statement}
 use Rattle.test_listing.proofs.put_bound.Tie as tie

@@ -1,6 +1,5 @@
 -- `test_listing::put_last` meets its contract: the words of the last line. Assumes nothing.
-use native.Mathlib.Omega.{arith}
-use borrow.Author.Rules.{rules}
+use Rattle.std.proofs.Common.{arith, rules}
 use Rattle.buffer.proofs.PutLaws.{put_then}
 use Rattle.test_listing.proofs.LineLaws.{last_parts, last_length}
 use Rattle.test_listing.proofs.put_last.Statement.{statement}

@@ -1,7 +1,6 @@
 -- `test_listing::put_row` meets its contract: the words of a task's line, one after the other.
 -- Assumes nothing.
-use native.Mathlib.Omega.{arith}
-use borrow.Author.Rules.{rules}
+use Rattle.std.proofs.Common.{arith, rules}
 use Rattle.buffer.proofs.PutLaws.{put_then, put_length}
 use Rattle.test_listing.proofs.LineLaws.{task_parts, task_length}
 use Rattle.test_listing.proofs.put_row.Statement.{statement}

@@ -1,8 +1,6 @@
 -- `test_listing::put_rows` meets its contract: after i turns the lines of the first i tasks are written.
 -- Assumes nothing.
-use Prim.Native.Nat.{◌-◌}
-use native.Mathlib.Omega.{arith}
-use borrow.Author.Rules.{rules}
+use Rattle.std.proofs.Common.{◌-◌, arith, rules}
 use Rattle.buffer.proofs.PutLaws.{put_length}
 use Rattle.table.proofs.LoadLaws.{task_ranges}
 use Rattle.test_listing.proofs.RowLaws.{Writing, writing_start, writing_room, writing_step}

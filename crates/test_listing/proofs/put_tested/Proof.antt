@@ -1,8 +1,5 @@
 -- `test_listing::put_tested` meets its contract: line one, the tasks' lines, the last line. Assumes nothing.
-use native.Mathlib.Omega.{arith}
-use mathlib.Core.Path.{ap}
-use lib.ListN.{length}
-use borrow.Author.Rules.{rules}
+use Rattle.std.proofs.Common.{arith, ap, length, rules}
 use Rattle.test_listing.specs.TestListing.{test_last}
 use Rattle.test_listing.proofs.ListedLaws.{tested_length, tested_put}
 use Rattle.test_listing.proofs.put_tested.Statement.{statement}

@@ -1,6 +1,6 @@
 -- `test_listing::write_test` meets its contract: nothing where there is no room; else the reading's refusal,
 -- or what the test says of its table. Assumes nothing.
-use borrow.Author.Rules.{rules}
+use Rattle.std.proofs.Common.{rules}
 use Rattle.test_listing.proofs.ListedLaws.{
   read_table,
   listing_done,

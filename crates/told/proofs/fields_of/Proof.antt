@@ -1,7 +1,6 @@
 -- `told::fields_of` meets its contract: the numbers in their order.
 -- Assumes nothing.
-use mathlib.Core.Path.{refl}
-use borrow.Author.Rules.{rules}
+use Rattle.std.proofs.Common.{refl, rules}
 use Rattle.told.specs.Told.{fields}
 use Rattle.told.proofs.fields_of.Statement.{statement}
 use Rattle.told.proofs.fields_of.Tie as tie

@@ -1,8 +1,6 @@
 -- `told::put_told` meets its contract. The loop's invariant: the numbers passed are written.
 -- Assumes nothing.
-use Prim.Native.Nat.{◌-◌}
-use native.Mathlib.Omega.{arith}
-use borrow.Author.Rules.{rules}
+use Rattle.std.proofs.Common.{◌-◌, arith, rules}
 use Rattle.told.proofs.ToldLaws.{Telling, telling_start, telling_length, telling_step, telling_end}
 use Rattle.told.proofs.put_told.Statement.{statement}
 use Rattle.told.proofs.put_told.Tie as tie

@@ -1,6 +1,6 @@
 -- `told::told_of` meets its contract, by the cases of an answer.
 -- Assumes nothing.
-use borrow.Author.Rules.{rules}
+use Rattle.std.proofs.Common.{rules}
 use Rattle.told.proofs.ToldLaws.{given_told, refused_told}
 use Rattle.told.proofs.told_of.Statement.{statement}
 use Rattle.told.proofs.told_of.Tie as tie

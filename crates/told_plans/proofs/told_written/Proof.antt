@@ -1,5 +1,5 @@
 -- `told_plans::told_written` meets its contract, case by case. Assumes nothing.
-use borrow.Author.Rules.{rules}
+use Rattle.std.proofs.Common.{rules}
 use Rattle.told_plans.proofs.told_written.Statement.{statement}
 use Rattle.told_plans.proofs.told_written.Tie as tie
 

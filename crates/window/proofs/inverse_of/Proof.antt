@@ -1,9 +1,6 @@
 -- `window::inverse_of` meets its contract: a quotient is no larger than 2^42.
 -- Assumes nothing.
-use native.Mathlib.Omega.{arith}
-use native.Mathlib.Nat.{div-le_self}
-use mathlib.Core.Path.{refl}
-use borrow.Author.Rules.{rules}
+use Rattle.std.proofs.Common.{arith, div-le_self, refl, rules}
 use Rattle.window.specs.Window.{inverse_of}
 use Rattle.window.proofs.inverse_of.Statement.{statement}
 use Rattle.window.proofs.inverse_of.Tie as tie

@@ -1,8 +1,6 @@
 -- `window::jobs` meets its contract: 2,000,000 × (2^42 + 1) is below 2^64.
 -- Assumes nothing.
-use native.Mathlib.Omega.{arith}
-use native.Mathlib.Nat.{mul-le-mul}
-use mathlib.Core.Path.{refl}
+use Rattle.std.proofs.Common.{arith, mul-le-mul, refl}
 use Rattle.window.specs.Window.{whole_in}
 use Rattle.window.proofs.jobs.Statement.{statement}
 use Rattle.window.proofs.jobs.Tie as tie

@@ -1,9 +1,6 @@
 -- `window::work` meets its contract: the work is the least of the two, and neither product is above x.
 -- Assumes nothing.
-use Prim.Native.Nat.{◌+◌}
-use native.Mathlib.Omega.{arith}
-use mathlib.Core.Path.{◌∙◌}
-use borrow.Author.Rules.{rules}
+use Rattle.std.proofs.Common.{◌+◌, arith, ◌∙◌, rules}
 use Rattle.window.proofs.WindowLaws.{inverse_small, whole_fits, work_is}
 use Rattle.window.proofs.work.Statement.{statement}
 use Rattle.window.proofs.work.Tie as tie

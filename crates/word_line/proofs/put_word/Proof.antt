@@ -1,6 +1,6 @@
 -- `word_line::put_word` meets its contract: the parts of the line, one after the other.
 -- Assumes nothing.
-use borrow.Author.Rules.{rules}
+use Rattle.std.proofs.Common.{rules}
 use Rattle.buffer.proofs.PutLaws.{put_then}
 use Rattle.frames.specs.Text.{bytes_text}
 use Rattle.word_line.proofs.LineLaws.{line_parts}

@@ -1,6 +1,6 @@
 -- `word_line::write_word` meets its contract: nothing where there is no room; else the line of the word, or
 -- the refusal's. Assumes nothing.
-use borrow.Author.Rules.{rules}
+use Rattle.std.proofs.Common.{rules}
 use Rattle.listing.proofs.ListedLaws.{listed_short, listed_put}
 use Rattle.word_line.proofs.LineLaws.{word_given, word_refused, refused_room}
 use Rattle.word_line.proofs.write_word.Statement.{statement}

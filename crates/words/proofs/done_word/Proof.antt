@@ -1,9 +1,6 @@
 -- `words::done_word` meets its contract. The loop's invariant: the flags of the records passed are held.
 -- Assumes nothing.
-use Prim.Native.Nat.{◌-◌, ◌≤◌}
-use native.Mathlib.Omega.{arith}
-use mathlib.Core.Path.{◌≡◌, refl}
-use borrow.Author.Rules.{rules}
+use Rattle.std.proofs.Common.{◌-◌, ◌≤◌, arith, ◌≡◌, refl, rules}
 use Rattle.flags.specs.Flags.{held}
 use Rattle.flags.proofs.FlagLaws.{held_start, held_step}
 use Rattle.words.specs.Word.{flag_at}

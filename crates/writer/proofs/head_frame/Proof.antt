@@ -1,6 +1,5 @@
 -- `writer::head_frame` meets its contract: the bytes are those of the definition. Assumes nothing.
-use mathlib.Core.Path.{refl}
-use borrow.Author.Rules.{rules}
+use Rattle.std.proofs.Common.{refl, rules}
 use Rattle.lines.specs.Writes.{head_bytes}
 use Rattle.writer.proofs.head_frame.Statement.{statement}
 use Rattle.writer.proofs.head_frame.Tie as tie

@@ -1,8 +1,6 @@
 -- `writer::put_text` meets its contract: 16 by the two tests of the room, 18 by the levels; else the head
 -- line and the task lines. Assumes nothing.
-use native.Mathlib.Omega.{arith}
-use mathlib.Core.Path.{sym, ◌∙◌}
-use borrow.Author.Rules.{rules}
+use Rattle.std.proofs.Common.{arith, sym, ◌∙◌, rules}
 use Rattle.lines_writer.proofs.RestLaws.{rest_room, put_rest}
 use Rattle.writer.proofs.PlanLaws.{past_full, short_full, other_level, tasks_room, text_put}
 use Rattle.writer.proofs.put_text.Statement.{statement}

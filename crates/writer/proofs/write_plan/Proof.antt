@@ -1,6 +1,5 @@
 -- `writer::write_plan` meets its contract: the first fault of the table, or its text. Assumes nothing.
-use mathlib.Core.Path.{sym, ◌∙◌}
-use borrow.Author.Rules.{rules}
+use Rattle.std.proofs.Common.{sym, ◌∙◌, rules}
 use Rattle.table.proofs.TableLaws.{fine_legal}
 use Rattle.writer.proofs.PlanLaws.{wrote_text, wrote_none}
 use Rattle.writer.proofs.write_plan.Statement.{statement}

@@ -1,6 +1,6 @@
 -- `wrote::write_changed` meets its contract: the changer's answer, told in numbers.
 -- Assumes nothing.
-use borrow.Author.Rules.{rules}
+use Rattle.std.proofs.Common.{rules}
 use Rattle.wrote.proofs.WroteLaws.{plan_changed}
 use Rattle.wrote.proofs.write_changed.Statement.{statement}
 use Rattle.wrote.proofs.write_changed.Tie as tie

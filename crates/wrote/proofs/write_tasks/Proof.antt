@@ -1,6 +1,6 @@
 -- `wrote::write_tasks` meets its contract: the writer's answer, told in numbers.
 -- Assumes nothing.
-use borrow.Author.Rules.{rules}
+use Rattle.std.proofs.Common.{rules}
 use Rattle.wrote.proofs.WroteLaws.{tasks_wrote}
 use Rattle.wrote.proofs.write_tasks.Statement.{statement}
 use Rattle.wrote.proofs.write_tasks.Tie as tie

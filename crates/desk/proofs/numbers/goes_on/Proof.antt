@@ -1,7 +1,5 @@
 -- `desk::numbers::goes_on` is safe and ends. Assumes nothing.
-use borrow.Author.Rules.{rules}
-use Prim.Native.Nat.{◌≤◌, ◌-◌}
-use lib.ListN.{length}
+use Rattle.std.proofs.Common.{rules, ◌≤◌, ◌-◌, length}
 use Rattle.desk.proofs.numbers.goes_on.Statement.{statement}
 use Rattle.desk.proofs.numbers.goes_on.Tie as tie
 

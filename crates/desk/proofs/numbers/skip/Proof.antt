@@ -1,7 +1,5 @@
 -- `desk::numbers::skip` is safe and ends, and its place lies within the text. Assumes nothing.
-use borrow.Author.Rules.{rules}
-use Prim.Native.Nat.{◌≤◌, ◌-◌}
-use lib.ListN.{length}
+use Rattle.std.proofs.Common.{rules, ◌≤◌, ◌-◌, length}
 use Rattle.desk.proofs.numbers.skip.Statement.{statement}
 use Rattle.desk.proofs.numbers.skip.Tie as tie
 

@@ -1,7 +1,5 @@
 -- `desk::numbers::table_in` is safe and ends: at most 32 tasks are read, within the text. Assumes nothing.
-use borrow.Author.Rules.{rules}
-use Prim.Native.Nat.{◌≤◌, ◌-◌}
-use lib.ListN.{length}
+use Rattle.std.proofs.Common.{rules, ◌≤◌, ◌-◌, length}
 use Rattle.desk.proofs.numbers.table_in.Statement.{statement}
 use Rattle.desk.proofs.numbers.table_in.Tie as tie
 

@@ -1,9 +1,6 @@
 -- `desk::rounds::apply` is safe: what is written is a part of the buffer. Assumes nothing.
-use native.Mathlib.Omega.{arith}
-use mathlib.Core.Path.{sym}
-use lib.Seq.{length-take-le}
+use Rattle.std.proofs.Common.{arith, sym, length-take-le, rules}
 use Rattle.changer.proofs.Theorems.{end_within}
-use borrow.Author.Rules.{rules}
 use Rattle.desk.proofs.rounds.apply.Statement.{statement}
 use Rattle.desk.proofs.rounds.apply.Tie as tie
 

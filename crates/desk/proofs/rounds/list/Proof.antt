@@ -1,8 +1,5 @@
 -- `desk::rounds::list` is safe: what is written is a part of the buffer. Assumes nothing.
-use native.Mathlib.Omega.{arith}
-use mathlib.Core.Path.{sym}
-use lib.Seq.{length-take-le}
-use borrow.Author.Rules.{rules}
+use Rattle.std.proofs.Common.{arith, sym, length-take-le, rules}
 use Rattle.desk.proofs.rounds.list.Statement.{statement}
 use Rattle.desk.proofs.rounds.list.Tie as tie
 

@@ -1,6 +1,5 @@
 -- `desk::show::put_table` is safe and ends: 32 turns. Assumes nothing.
-use borrow.Author.Rules.{rules}
-use Prim.Native.Nat.{◌≤◌, ◌-◌}
+use Rattle.std.proofs.Common.{rules, ◌≤◌, ◌-◌}
 use Rattle.desk.proofs.show.put_table.Statement.{statement}
 use Rattle.desk.proofs.show.put_table.Tie as tie
 
