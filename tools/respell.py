@@ -80,6 +80,13 @@ def apart(found, table):
 
 
 def turned(text, table, kind):
+    """Names that a file takes from the library stay as the library spells them."""
+    own = set(os.listdir("crates"))
+    for mod, items in re.findall(r"use ([\w.]+)\.\{([^}]*)\}", text):
+        parts = mod.split(".")
+        if not (parts[0] == "Rattle" and len(parts) > 1 and parts[1] in own) and kind == "antt":
+            table = {n: t for n, t in table.items() if n not in [i.strip() for i in items.split(",")]}
+
     def one(m):
         w = m.group(0)
         return table.get(w, w)

@@ -1,7 +1,8 @@
 -- Laws of `first_of`, the number of the first place that passes a test, and of the loop that looks for it:
 -- what it knows at the start, after one place more, and at its end. By induction over the places. Assumes
 -- nothing.
-use Rattle.std.proofs.Common.{ℕ, zero, suc, ◌+◌, ◌≤◌, ◌<◌, arith, eq-or-lt_of_le, ◌≡◌, refl, sym, ap, ◌∙◌, subst, ◌⊎◌, inl, inr, ⊎_elim, Bool, true, false}
+use Rattle.std.proofs.Common.{ℕ, zero, suc, ◌+◌, ◌≤◌, ◌<◌, arith, eq-or-lt_of_le, ◌≡◌, refl, sym, ap, ◌∙◌}
+use Rattle.std.proofs.Common.{subst, ◌⊎◌, inl, inr, ⊎_elim, Bool, true, false}
 use Rattle.base.specs.Choice.{pick}
 use Rattle.base.specs.Least.{first_from, first_of}
 use Rattle.base.proofs.OrderLaws.{below_none, below_next}

@@ -1,7 +1,9 @@
 -- Laws of `least`: what its answer is, how it moves with the test, and that the iteration of Theorem 1
 -- reaches it where g never falls. By induction over the range.
 -- Assumes nothing.
-use Rattle.std.proofs.Common.{ℕ, zero, suc, ◌+◌, ◌-◌, ◌≤◌, ◌<◌, arith, eq-or-lt_of_le, le_refl, ◌≡◌, refl, sym, ap, ap₂, ◌∙◌, subst, ◌⊎◌, inl, inr, ⊎_elim, Bool, true, false, leb, leb-true, leb-false}
+use Rattle.std.proofs.Common.{ℕ, zero, suc, ◌+◌, ◌-◌, ◌≤◌, ◌<◌, arith, eq-or-lt_of_le, le_refl, ◌≡◌, refl}
+use Rattle.std.proofs.Common.{sym, ap, ap₂, ◌∙◌, subst, ◌⊎◌, inl, inr, ⊎_elim, Bool, true, false, leb}
+use Rattle.std.proofs.Common.{leb-true, leb-false}
 use borrow.Author.Tests.{lt-leb}
 use Rattle.base.specs.Choice.{pick}
 use Rattle.base.specs.Least.{NoWorse, least, iterate}

@@ -1,6 +1,9 @@
 -- Lists by place, and rows of 32 places, filled from the front by a loop: at the start, after one store more,
 -- and at the end. Over any element. Assumes nothing.
-use Rattle.std.proofs.Common.{ℕ, zero, suc, ◌+◌, ◌≤◌, ◌<◌, arith, eq-or-lt_of_le, ◌≡◌, refl, sym, ap, ap₂, ◌∙◌, Bool, true, false, List, ◌∷◌, ◌⊎◌, ⊎_elim, get_or, length, set, replicate, length-set, get_or-set_same, get_or-set_other, ext_get_or, ltb, lt-ltb, le-ltb, ltb-true, ltb-false}
+use Rattle.std.proofs.Common.{ℕ, zero, suc, ◌+◌, ◌≤◌, ◌<◌, arith, eq-or-lt_of_le, ◌≡◌, refl, sym, ap, ap₂}
+use Rattle.std.proofs.Common.{◌∙◌, Bool, true, false, List, ◌∷◌, ⊎_elim, get_or, length, set}
+use Rattle.std.proofs.Common.{replicate, length-set, get_or-set_same, get_or-set_other, ext_get_or, ltb}
+use Rattle.std.proofs.Common.{lt-ltb, le-ltb, ltb-true, ltb-false}
 use Rattle.std.proofs.Math.ListN.{get_or-replicate, length-replicate}
 use Rattle.base.specs.Choice.{pick}
 use Rattle.base.specs.Rows.{list_from, list_of, row}

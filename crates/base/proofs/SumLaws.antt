@@ -1,7 +1,8 @@
 -- Laws of sums and of the m largest: how they move with their terms and with m, and when two are the same. By
 -- induction over the places; `whole_mono` is the one that carries every law of order of B.
 -- Assumes nothing.
-use Rattle.std.proofs.Common.{ℕ, zero, suc, ◌+◌, ◌*◌, ◌≤◌, ◌<◌, arith, add-one, ◌≡◌, refl, ap, ◌∙◌, mul-le-mul_left, eq-or-lt_of_le, ⊎_elim}
+use Rattle.std.proofs.Common.{ℕ, zero, suc, ◌+◌, ◌*◌, ◌≤◌, ◌<◌, arith, add-one, ◌≡◌, refl, ap, ◌∙◌}
+use Rattle.std.proofs.Common.{mul-le-mul_left, eq-or-lt_of_le, ⊎_elim}
 use Rattle.base.specs.Sums.{sum_to, top_to}
 
 pub sum_mono : (f g : ℕ → ℕ) (n : ℕ) → ((i : ℕ) → i < n → f i ≤ g i) → sum_to f n ≤ sum_to g n

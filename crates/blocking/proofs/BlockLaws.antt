@@ -1,6 +1,7 @@
 -- The candidates that are kept: those of FP beside a non-preemptive k, and none else.
 -- Assumes nothing.
-use Rattle.std.proofs.Common.{ℕ, zero, suc, ◌≤◌, ◌<◌, ◌≡◌, refl, ap, ◌∙◌, Bool, true, false, List, length, replicate, eqb}
+use Rattle.std.proofs.Common.{ℕ, zero, suc, ◌≤◌, ◌<◌, ◌≡◌, refl, ap, ◌∙◌, Bool, true, false, List, length}
+use Rattle.std.proofs.Common.{replicate, eqb}
 use Rattle.std.proofs.Math.ListN.{length-replicate}
 use Rattle.base.specs.Choice.{pick}
 use Rattle.base.specs.Rows.{at}

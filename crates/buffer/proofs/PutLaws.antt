@@ -1,6 +1,9 @@
 -- How words that are written one after the other make one word: the only laws that a chain of writes needs.
 -- Each is on plain lists and numbers, for any word. Assumes nothing.
-use Rattle.std.proofs.Common.{ℕ, suc, ◌+◌, ◌≤◌, ◌<◌, arith, ◌≡◌, refl, sym, ap, ◌∙◌, List, [], ◌∷◌, ◌++◌, append_assoc, length, get_or, take, drop, set, length-append, length-take, length-drop, take-append-drop, length-take-le, take_at, drop_at, drop-drop, take-suc, add-one}
+use Rattle.std.proofs.Common.{ℕ, suc, ◌+◌, ◌≤◌, ◌<◌, arith, ◌≡◌, refl, sym, ap, ◌∙◌, List, [], ◌∷◌, ◌++◌}
+use Rattle.std.proofs.Common.{append_assoc, length, get_or, take, drop, set, length-append, length-take}
+use Rattle.std.proofs.Common.{length-drop, take-append-drop, length-take-le, take_at, drop_at, drop-drop}
+use Rattle.std.proofs.Common.{take-suc, add-one}
 use Rattle.std.proofs.Math.Seq.{set_split, take-length}
 use Rattle.buffer.specs.Put.{Put}
 

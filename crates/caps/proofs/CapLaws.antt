@@ -2,7 +2,9 @@
 -- over plain numbers. So the sum under the caps is what is summed with the candidates kept, under any slacks,
 -- and without slack the whole sum.
 -- Assumes nothing.
-use Rattle.std.proofs.Common.{ℕ, zero, suc, ◌+◌, ◌-◌, ◌/◌, ◌≤◌, ◌<◌, min, arith, div-mul-le_self, mul-le-mul_left, ◌≡◌, refl, ap, ◌∙◌, Bool, true, false, eqb, ltb, lt-ltb, le-ltb}
+use Rattle.std.proofs.Common.{ℕ, zero, suc, ◌+◌, ◌-◌, ◌/◌, ◌≤◌, ◌<◌, min, arith, div-mul-le_self}
+use Rattle.std.proofs.Common.{mul-le-mul_left, ◌≡◌, refl, ap, ◌∙◌, Bool, true, false, eqb, ltb, lt-ltb}
+use Rattle.std.proofs.Common.{le-ltb}
 use Rattle.base.specs.Choice.{pick}
 use Rattle.base.specs.Sums.{sum_to, top_to}
 use Rattle.base.proofs.SumLaws.{sum_same, sum_add, top_same}

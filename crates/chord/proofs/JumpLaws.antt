@@ -1,7 +1,8 @@
 -- The jump from above: one length before d the growth so far is a straight line in d. Where the line would
 -- hold there, d falls to where the two meet; where it fails there, it fails at all lengths before d.
 -- Assumes nothing.
-use Rattle.std.proofs.Common.{ℕ, ◌+◌, ◌*◌, ◌-◌, ◌/◌, ◌≤◌, ◌<◌, min, arith, div-lt_iff_lt-mul, mul-le-mul_right, add-one, ◌≡◌, ap, ◌⊎◌, inl, inr, ⊎_elim}
+use Rattle.std.proofs.Common.{ℕ, ◌+◌, ◌*◌, ◌-◌, ◌/◌, ◌≤◌, ◌<◌, min, arith, div-lt_iff_lt-mul}
+use Rattle.std.proofs.Common.{mul-le-mul_right, add-one, ◌≡◌, ap, ◌⊎◌, inl, inr, ⊎_elim}
 use Rattle.std.proofs.Math.Nat.{min-le_right}
 use Rattle.base.specs.Sums.{sum_to}
 use Rattle.base.proofs.OrderLaws.{le_or_lt}

@@ -1,7 +1,9 @@
 -- Laws of sums by index: no term above 0, one, or at most one; a sum that passes through a number; a table
 -- added up by rows or by columns; weights of 0 and 1. By induction over the number of places.
 -- Assumes nothing.
-use Rattle.std.proofs.Common.{ℕ, zero, suc, ◌+◌, ◌*◌, ◌-◌, ◌≤◌, ◌<◌, arith, eq-or-lt_of_le, eq-zero-or-pos, le_refl, ◌≡◌, refl, sym, ap, ◌∙◌, ◌⊎◌, inl, inr, ⊎_elim, Bool, true, false, eqb, eqb-true}
+use Rattle.std.proofs.Common.{ℕ, zero, suc, ◌+◌, ◌*◌, ◌-◌, ◌≤◌, ◌<◌, arith, eq-or-lt_of_le, eq-zero-or-pos}
+use Rattle.std.proofs.Common.{le_refl, ◌≡◌, refl, sym, ap, ◌∙◌, ◌⊎◌, inl, inr, ⊎_elim, Bool, true, false}
+use Rattle.std.proofs.Common.{eqb, eqb-true}
 use borrow.Author.Tests.{eqb-false}
 use Rattle.base.specs.Sums.{sum_to}
 use Rattle.base.proofs.SumLaws.{sum_mono, sum_add, sum_cap}

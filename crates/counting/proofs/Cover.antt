@@ -2,7 +2,8 @@
 -- cover the quanta that each task uses. If at least cores × q quanta are used and all are covered, then q is
 -- at most B, and that is what the line of the length denies.
 -- Assumes nothing.
-use Rattle.std.proofs.Common.{ℕ, zero, suc, ◌+◌, ◌*◌, ◌-◌, ◌≤◌, ◌<◌, arith, le-div_iff_mul-le, ◌≡◌, refl, sym, Bool, true, false, ⊎_elim, ltb, leb-true, ne_eqb}
+use Rattle.std.proofs.Common.{ℕ, zero, suc, ◌+◌, ◌*◌, ◌-◌, ◌≤◌, ◌<◌, arith, le-div_iff_mul-le, ◌≡◌, refl}
+use Rattle.std.proofs.Common.{sym, Bool, true, false, ⊎_elim, ltb, leb-true, ne_eqb}
 use Rattle.base.specs.Sums.{sum_to}
 use Rattle.model.specs.Bound.{
   Policy,

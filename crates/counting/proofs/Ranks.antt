@@ -2,7 +2,9 @@
 -- than m candidates have a smaller key. Then at most m are chosen; where one is left, m are chosen, and none
 -- of a larger key. And keys that order by a class, then by a priority, then by the place.
 -- Assumes nothing.
-use Rattle.std.proofs.Common.{ℕ, zero, suc, ◌+◌, ◌*◌, ◌-◌, ◌≤◌, ◌<◌, arith, eq-or-lt_of_le, eq-zero-or-pos, le_refl, le_trans, mul-le-mul_right, ◌≡◌, refl, ap, ◌⊎◌, inl, inr, ⊎_elim, ltb, lt-ltb, le-ltb}
+use Rattle.std.proofs.Common.{ℕ, zero, suc, ◌+◌, ◌*◌, ◌-◌, ◌≤◌, ◌<◌, arith, eq-or-lt_of_le, eq-zero-or-pos}
+use Rattle.std.proofs.Common.{le_refl, le_trans, mul-le-mul_right, ◌≡◌, refl, ap, ◌⊎◌, inl, inr, ⊎_elim}
+use Rattle.std.proofs.Common.{ltb, lt-ltb, le-ltb}
 use Rattle.base.specs.Sums.{sum_to}
 use Rattle.base.specs.Choice.{pick}
 use Rattle.base.proofs.SumLaws.{sum_mono, sum_add, sum_part}

@@ -3,7 +3,9 @@
 -- variable. Then the jobs of one task in a window: a first one that is cut off at its start, whole ones, and
 -- a last one that is cut off at its end add up to at most W; those due by a deadline to at most E.
 -- Assumes nothing.
-use Rattle.std.proofs.Common.{ℕ, zero, suc, ◌+◌, ◌*◌, ◌-◌, ◌/◌, ◌%◌, ◌≤◌, ◌<◌, min, arith, eq-or-lt_of_le, le_trans, div-mul-le_self, mod-lt, div-add-mod', mul-le-mul_right, mod-eq_of_lt, ◌≡◌, ap, ◌∙◌, ◌⊎◌, inl, inr, ⊎_elim}
+use Rattle.std.proofs.Common.{ℕ, zero, suc, ◌+◌, ◌*◌, ◌-◌, ◌/◌, ◌%◌, ◌≤◌, ◌<◌, min, arith, eq-or-lt_of_le}
+use Rattle.std.proofs.Common.{le_trans, div-mul-le_self, mod-lt, div-add-mod', mul-le-mul_right}
+use Rattle.std.proofs.Common.{mod-eq_of_lt, ◌≡◌, ap, ◌∙◌, ◌⊎◌, inl, inr, ⊎_elim}
 use Rattle.std.proofs.Math.Nat.{add-div_right, add-mod_right, div-eq_of_lt}
 use Rattle.base.specs.Sums.{sum_to}
 use Rattle.model.specs.Bound.{work_in}

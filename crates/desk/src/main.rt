@@ -39,6 +39,8 @@ mod show;
 
 ghost use Rattle.std.specs.Prelude.{◌≤◌, length};
 
+use std::io::Read;
+
 use changer::Changed;
 use writer::Written;
 
@@ -49,21 +51,29 @@ struct Input {
     failed: bool,
 }
 
-// Reads until the buffer is full, the input ends or a read fails, which its negative answer tells.
-fn read_input(text: &mut [u8]) -> Input
+// Reads until the buffer is full, the input ends or a read fails.
+fn read_input<R: Read>(from: &mut R, text: &mut [u8]) -> Input
     ensures { result.count ≤ length text.new }
 {
     let mut count: usize = 0;
     while count < text.len() {
-        let got = libc::read(0, &mut text[count..]);
-        let more = io::count(got, &text[count..]);
-        if more == 0 {
-            return Input {
-                count: count,
-                failed: got < 0,
-            };
+        match from.read(&mut text[count..]) {
+            Ok(more) => {
+                if more == 0 {
+                    return Input {
+                        count: count,
+                        failed: false,
+                    };
+                }
+                count += more;
+            }
+            Err(_) => {
+                return Input {
+                    count: count,
+                    failed: true,
+                };
+            }
         }
-        count += more;
     }
     Input {
         count: count,
@@ -205,9 +215,10 @@ fn answer(s: &[u8], n: usize)
     );
 }
 
-fn main() {
+fn main(rt: HostRuntime) {
     let mut text = io::buffer();
-    let input = read_input(&mut text);
+    let mut from = rt.stdin();
+    let input = read_input(&mut from, &mut text);
     let n = input.count;
     if input.failed {
         io::write_all(2, b"desk: standard input could not be read\n");

@@ -2,7 +2,8 @@
 -- task's own C. The table is reached in five steps, of which each has its law: tasks left out, the other
 -- tasks' T and C, the own C, cores one by one, and slacks.
 -- Assumes nothing.
-use Rattle.std.proofs.Common.{ℕ, zero, suc, ◌-◌, ◌≤◌, ◌<◌, arith, eq-or-lt_of_le, le_refl, ◌≡◌, refl, sym, ap, subst, inr, ⊎_elim, Bool, true, false, eqb, eqb-true, eq-eqb, ne_eqb}
+use Rattle.std.proofs.Common.{ℕ, zero, suc, ◌-◌, ◌≤◌, ◌<◌, arith, eq-or-lt_of_le, le_refl, ◌≡◌, refl, sym}
+use Rattle.std.proofs.Common.{ap, subst, inr, ⊎_elim, Bool, true, false, eqb, eqb-true, eq-eqb, ne_eqb}
 use Rattle.base.specs.Choice.{pick}
 use Rattle.base.specs.Least.{NoWorse}
 use Rattle.model.specs.Bound.{System, Legal, under, bound}

@@ -2,7 +2,8 @@
 -- the length and by q alone; at one wait q stays, and a smaller C_k gives a shorter length, at which no other
 -- task has more work.
 -- Assumes nothing.
-use Rattle.std.proofs.Common.{ℕ, zero, suc, ◌+◌, ◌-◌, ◌≤◌, ◌<◌, arith, le_refl, le_of_eq, ◌≡◌, refl, Bool, true, false, eqb, ltb}
+use Rattle.std.proofs.Common.{ℕ, zero, suc, ◌+◌, ◌-◌, ◌≤◌, ◌<◌, arith, le_refl, le_of_eq, ◌≡◌, refl, Bool}
+use Rattle.std.proofs.Common.{true, false, eqb, ltb}
 use borrow.Author.Tests.{eqb-false}
 use Rattle.base.specs.Choice.{pick}
 use Rattle.base.proofs.SumLaws.{whole_mono}

@@ -1,7 +1,9 @@
 -- Deadlines shortened to no less than the bounds given out, without slack: W falls with D_i and E with D_k,
 -- so that at one wait B is no larger; and each bound given out still lies in its range.
 -- Assumes nothing.
-use Rattle.std.proofs.Common.{ℕ, zero, suc, ◌+◌, ◌*◌, ◌-◌, ◌/◌, ◌%◌, ◌≤◌, ◌<◌, min, arith, eq-or-lt_of_le, le_refl, div-add-mod', mul-le-mul_right, ◌≡◌, refl, ap, ◌∙◌, inr, ⊎_elim, Bool, true, false, eqb, ltb}
+use Rattle.std.proofs.Common.{ℕ, zero, suc, ◌+◌, ◌*◌, ◌-◌, ◌/◌, ◌%◌, ◌≤◌, ◌<◌, min, arith, eq-or-lt_of_le}
+use Rattle.std.proofs.Common.{le_refl, div-add-mod', mul-le-mul_right, ◌≡◌, refl, ap, ◌∙◌, inr, ⊎_elim}
+use Rattle.std.proofs.Common.{Bool, true, false, eqb, ltb}
 use Rattle.base.specs.Rows.{at}
 use Rattle.base.proofs.SumLaws.{whole_mono}
 use Rattle.model.specs.Bound.{Policy, EDF, FP, System, W, E, share, block, from, cap, share_of, block_of, B}

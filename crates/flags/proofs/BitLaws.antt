@@ -2,7 +2,9 @@
 -- xor and not, of a sum of bits; equal bits make equal numbers; the count of ones is the sum of the bits, and
 -- trailing zeros end at the lowest bit that is set.
 -- Assumes nothing.
-use Rattle.std.proofs.Common.{ℕ, zero, suc, ◌+◌, ◌-◌, ◌*◌, ◌/◌, ◌%◌, ◌^◌, ◌≤◌, ◌<◌, min, max, arith, pow-suc, div-one, mod-lt, add_comm, eq-or-lt_of_le, lt_of_lt_of_le, ◌≡◌, refl, sym, ap, ap₂, ◌∙◌, ⊎_elim, pow_pos, pow_mono}
+use Rattle.std.proofs.Common.{ℕ, zero, suc, ◌+◌, ◌-◌, ◌*◌, ◌/◌, ◌%◌, ◌^◌, ◌≤◌, ◌<◌, min, max, arith}
+use Rattle.std.proofs.Common.{pow-suc, div-one, mod-lt, add_comm, eq-or-lt_of_le, lt_of_lt_of_le, ◌≡◌, refl}
+use Rattle.std.proofs.Common.{sym, ap, ap₂, ◌∙◌, ⊎_elim, pow_pos, pow_mono}
 use Rattle.std.proofs.Math.Nat.{pow-succ', div-div-eq-div-mul, div-eq_of_lt}
 use Rattle.std.proofs.Math.Nat.{add-mul-div_right}
 use Rattle.std.proofs.Math.Arith.{lt-one, digits_mod}

@@ -1,7 +1,9 @@
 -- What the operations on words are by place: or, and with not, the count of ones of xor, and the zeros at
 -- either end. Each is a fact of two bits, or of the highest or lowest bit that is set.
 -- Assumes nothing.
-use Rattle.std.proofs.Common.{ℕ, zero, suc, ◌+◌, ◌-◌, ◌*◌, ◌/◌, ◌%◌, ◌^◌, ◌≤◌, ◌<◌, min, max, arith, pow-suc, mod-lt, div-add-mod', ◌≡◌, refl, sym, ap, ◌∙◌, Bool, true, false, ⊎_elim, eqb, shl_exact, pow_pos, eqb-true, eq-eqb, ne_eqb}
+use Rattle.std.proofs.Common.{ℕ, zero, suc, ◌+◌, ◌-◌, ◌*◌, ◌/◌, ◌%◌, ◌^◌, ◌≤◌, ◌<◌, min, max, arith}
+use Rattle.std.proofs.Common.{pow-suc, mod-lt, div-add-mod', ◌≡◌, refl, sym, ap, ◌∙◌, Bool, true, false}
+use Rattle.std.proofs.Common.{⊎_elim, eqb, shl_exact, pow_pos, eqb-true, eq-eqb, ne_eqb}
 use Rattle.std.proofs.Math.Nat.{mod-le}
 use Rattle.std.proofs.Math.Pow.{pow-lt}
 use lib.Bits.{bit_and, bit_or, bit_xor, differ, and_lt, or_lt, xor_lt}

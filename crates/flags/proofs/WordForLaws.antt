@@ -2,7 +2,8 @@
 -- on words are forcing's own: a pass makes `flags | failing`, it is the last exactly if `failing & !flags`
 -- is 0, the ones of xor are the changed tasks, and the trailing zeros lead to the lowest failing one.
 -- Assumes nothing.
-use Rattle.std.proofs.Common.{ℕ, zero, suc, ◌+◌, ◌-◌, ◌^◌, ◌≤◌, ◌<◌, arith, lt_of_lt_of_le, pow-suc, ◌≡◌, refl, sym, ap, ap₂, ◌∙◌, List, ⊎_elim, ◌↔◌, eqb, pow_mono}
+use Rattle.std.proofs.Common.{ℕ, zero, suc, ◌+◌, ◌-◌, ◌^◌, ◌≤◌, ◌<◌, arith, lt_of_lt_of_le, pow-suc, ◌≡◌}
+use Rattle.std.proofs.Common.{refl, sym, ap, ap₂, ◌∙◌, List, ⊎_elim, ◌↔◌, eqb, pow_mono}
 use lib.Bits.{bit_and, bit_or, bit_xor, and_lt}
 use lib.Count.{ones, count_trailing_zeros}
 use Rattle.base.specs.Sums.{sum_to}

@@ -1,7 +1,8 @@
 -- What a caller's numbers are read as: the numbers of a list of tasks as that list, four to a task only where
 -- its levels are its places; four to a task always with the places as levels; and a last task that is not
 -- whole makes no legal table. Assumes nothing.
-use Rattle.std.proofs.Common.{ℕ, zero, suc, ◌+◌, ◌*◌, ◌/◌, ◌%◌, ◌<◌, arith, ◌≡◌, refl, ap, ◌∙◌, Bool, true, false, List, [], ◌∷◌, ◌++◌, length, get_or-append-add, eq-eqb, ne_eqb, ⊎_elim}
+use Rattle.std.proofs.Common.{ℕ, zero, suc, ◌+◌, ◌*◌, ◌/◌, ◌%◌, ◌<◌, arith, ◌≡◌, refl, ap, ◌∙◌, Bool, true}
+use Rattle.std.proofs.Common.{false, List, [], ◌∷◌, ◌++◌, length, get_or-append-add, eq-eqb, ne_eqb, ⊎_elim}
 use Rattle.std.proofs.Math.ListN.{get_or-eq_default}
 use Rattle.base.specs.Rows.{at}
 use Rattle.base.proofs.RowLaws.{row_at}

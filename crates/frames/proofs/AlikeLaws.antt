@@ -2,7 +2,9 @@
 -- place. What frames say of them is the same. A text is alike to its raised text, and in its first n bytes to
 -- these bytes alone.
 -- Assumes nothing.
-use Rattle.std.proofs.Common.{ℕ, ◌+◌, ◌*◌, ◌-◌, ◌≤◌, ◌<◌, arith, ◌≡◌, sym, ap, ◌∙◌, ⊎_elim, List, length, get_or, take, drop, length-take, length-drop, get_or-take, get_or-drop, leb, eqb, le-leb}
+use Rattle.std.proofs.Common.{ℕ, ◌+◌, ◌*◌, ◌-◌, ◌≤◌, ◌<◌, arith, ◌≡◌, sym, ap, ◌∙◌, ⊎_elim, List, length}
+use Rattle.std.proofs.Common.{get_or, take, drop, length-take, length-drop, get_or-take, get_or-drop, leb}
+use Rattle.std.proofs.Common.{eqb, le-leb}
 use borrow.Author.Tests.{lt-leb}
 use Rattle.base.proofs.SumLaws.{sum_same}
 use Rattle.base.proofs.OrderLaws.{le_or_lt}

@@ -1,7 +1,8 @@
 -- A byte that is read is the byte as it is written: two digits that read as b are, raised, the text of b, and
 -- the text of b reads as b. The digit rule enters by two computed tests, `digit_there` and `digit_back`.
 -- Assumes nothing.
-use Rattle.std.proofs.Common.{ℕ, ◌+◌, ◌*◌, ◌/◌, ◌%◌, ◌<◌, arith, ◌≡◌, refl, sym, ◌∙◌, ap, ap₂, subst, Bool, true, List, [], ◌∷◌, ltb, eqb, get_or, drop, get_or-drop, lt-ltb, eqb-true}
+use Rattle.std.proofs.Common.{ℕ, ◌+◌, ◌*◌, ◌/◌, ◌%◌, ◌<◌, arith, ◌≡◌, refl, sym, ◌∙◌, ap, ap₂, subst, Bool}
+use Rattle.std.proofs.Common.{true, List, [], ◌∷◌, ltb, eqb, get_or, drop, get_or-drop, lt-ltb, eqb-true}
 use Rattle.base.specs.Choice.{pick}
 use Rattle.frames.specs.Digits.{digit_of, digit_text, raise, raised, digit_at, byte_at, word_at, Digits}
 use Rattle.frames.specs.Text.{word_bytes}

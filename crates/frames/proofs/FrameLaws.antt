@@ -1,6 +1,8 @@
 -- The frame's fault is 0 exactly for a right frame, and 1 to 4 exactly when document 01 says so.
 -- Each way through the tests is one line of `wrong_frame`; `frame_cases` finds the way. Assumes nothing.
-use Rattle.std.proofs.Common.{ℕ, ◌*◌, ◌%◌, ◌<◌, arith, ◌≡◌, refl, Bool, true, false, ◌⊎◌, inl, inr, ⊎_elim, List, leb, eqb, length, get_or, le-leb, leb-true, leb-false, eq-eqb, ne_eqb, eqb-true}
+use Rattle.std.proofs.Common.{ℕ, ◌*◌, ◌%◌, ◌<◌, arith, ◌≡◌, refl, Bool, true, false, ◌⊎◌, inl, inr, ⊎_elim}
+use Rattle.std.proofs.Common.{List, leb, eqb, length, get_or, le-leb, leb-true, leb-false, eq-eqb, ne_eqb}
+use Rattle.std.proofs.Common.{eqb-true}
 use borrow.Author.Tests.{lt-leb, eqb-false}
 use Rattle.base.proofs.FirstLaws.{First, first_cases}
 use Rattle.frames.specs.Digits.{digit_at, byte_at, Digits, is_no_digit, all_digits}

@@ -1,7 +1,9 @@
 -- A line that is read is the line as it is written: digits and 0A, with the one check that makes the sum 0.
 -- `line_there`: a written line reads as its bytes; `line_back`: a right frame, raised, is the text of its
 -- bytes. Assumes nothing.
-use Rattle.std.proofs.Common.{ℕ, zero, suc, ◌+◌, ◌*◌, ◌/◌, ◌%◌, ◌<◌, ◌≤◌, arith, add-one, ◌≡◌, refl, sym, ◌∙◌, ap, ap₂, List, [], ◌∷◌, ◌++◌, append_assoc, length, get_or, take, drop, length-append, drop-cons, take-suc, ext_get_or, eq-eqb, eqb-true}
+use Rattle.std.proofs.Common.{ℕ, zero, suc, ◌+◌, ◌*◌, ◌/◌, ◌%◌, ◌<◌, ◌≤◌, arith, add-one, ◌≡◌, refl, sym}
+use Rattle.std.proofs.Common.{◌∙◌, ap, ap₂, List, [], ◌∷◌, ◌++◌, append_assoc, length, get_or, take, drop}
+use Rattle.std.proofs.Common.{length-append, drop-cons, take-suc, ext_get_or, eq-eqb, eqb-true}
 use Rattle.std.proofs.Math.ListN.{get_or-append}
 use Rattle.std.proofs.Math.Seq.{get_or-append_seam}
 use Rattle.base.specs.Sums.{sum_to}

@@ -2,7 +2,8 @@
 -- to no more than m times h with all that stands out above h (`threshold`), and a choice comes to just that
 -- where each of its numbers reaches h and no other goes beyond.
 -- Assumes nothing.
-use Rattle.std.proofs.Common.{ℕ, zero, suc, ◌+◌, ◌*◌, ◌-◌, ◌≤◌, ◌<◌, min, arith, le_antisymm, le_trans, le_of_eq, ◌≡◌, refl, sym, ap, ◌∙◌, subst, List, replicate}
+use Rattle.std.proofs.Common.{ℕ, zero, suc, ◌+◌, ◌*◌, ◌-◌, ◌≤◌, ◌<◌, min, arith, le_antisymm, le_trans}
+use Rattle.std.proofs.Common.{le_of_eq, ◌≡◌, refl, sym, ap, ◌∙◌, subst, List, replicate}
 use Rattle.std.proofs.Math.ListN.{get_or-replicate}
 use Rattle.base.specs.Rows.{at}
 use Rattle.base.specs.Sums.{sum_to, top_to}

@@ -1,6 +1,7 @@
 -- The loop that looks for the largest number left, and the row with that number kept: over plain values.
 -- Assumes nothing.
-use Rattle.std.proofs.Common.{ℕ, ◌+◌, ◌≤◌, ◌<◌, min, arith, ◌≡◌, refl, sym, ap, subst, List, Bool, true, false, length, set, get_or-set_same, get_or-set_other, eqb, eqb-true}
+use Rattle.std.proofs.Common.{ℕ, ◌+◌, ◌≤◌, ◌<◌, min, arith, ◌≡◌, refl, sym, ap, subst, List, Bool, true}
+use Rattle.std.proofs.Common.{false, length, set, get_or-set_same, get_or-set_other, eqb, eqb-true}
 use borrow.Author.Tests.{eqb-false}
 use Rattle.base.specs.Rows.{at}
 use Rattle.base.proofs.SumLaws.{sum_one}

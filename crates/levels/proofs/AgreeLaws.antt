@@ -1,7 +1,8 @@
 -- Systems that differ only in what no test asks for have the same bounds, tests and forcing. Whether a task
 -- is higher than itself is never asked: it is no part of its own sum.
 -- Assumes nothing.
-use Rattle.std.proofs.Common.{ℕ, ◌+◌, ◌/◌, ◌<◌, arith, le_of_eq, ◌≡◌, refl, sym, ap, ap₂, ◌∙◌, Bool, true, false, ◌⊎◌, inl, inr, ⊎_elim, eqb, ltb}
+use Rattle.std.proofs.Common.{ℕ, ◌+◌, ◌/◌, ◌<◌, arith, le_of_eq, ◌≡◌, refl, sym, ap, ap₂, ◌∙◌, Bool, true}
+use Rattle.std.proofs.Common.{false, ◌⊎◌, inl, inr, ⊎_elim, eqb, ltb}
 use borrow.Author.Tests.{eqb-false}
 use Rattle.base.specs.Choice.{pick}
 use Rattle.base.specs.Rows.{at, list_of}

@@ -1,6 +1,7 @@
 -- Places as levels is document 01's test; and EDF ignores levels.
 -- Assumes nothing.
-use Rattle.std.proofs.Common.{ℕ, ◌+◌, ◌≤◌, ◌<◌, arith, ◌≡◌, refl, sym, ap, ◌∙◌, true, List, ◌↔◌, inl, inr, ⊎_elim, leb, ltb, leb-true, le-leb, le-ltb, lt-ltb}
+use Rattle.std.proofs.Common.{ℕ, ◌+◌, ◌≤◌, ◌<◌, arith, ◌≡◌, refl, sym, ap, ◌∙◌, true, List, ◌↔◌, inl, inr}
+use Rattle.std.proofs.Common.{⊎_elim, leb, ltb, leb-true, le-leb, le-ltb, lt-ltb}
 use borrow.Author.Tests.{lt-leb}
 use Rattle.base.proofs.OrderLaws.{le_or_lt}
 use Rattle.base.specs.Rows.{list_of}

@@ -1,7 +1,9 @@
 -- A front is passed exactly where it is, raised, the text that a legal table is written as, and returns that
 -- table: line by line, by the laws of one line's text.
 -- Assumes nothing.
-use Rattle.std.proofs.Common.{ℕ, zero, suc, ◌+◌, ◌*◌, ◌≤◌, ◌<◌, arith, eq-or-lt_of_le, add-one, ◌≡◌, refl, sym, ap, ap₂, subst, ◌∙◌, ⊎_elim, List, [], ◌++◌, append_assoc, append-nil, length, take, drop, replicate, length-append, take-add, drop_at}
+use Rattle.std.proofs.Common.{ℕ, zero, suc, ◌+◌, ◌*◌, ◌≤◌, ◌<◌, arith, eq-or-lt_of_le, add-one, ◌≡◌, refl}
+use Rattle.std.proofs.Common.{sym, ap, ap₂, subst, ◌∙◌, ⊎_elim, List, [], ◌++◌, append_assoc, append-nil}
+use Rattle.std.proofs.Common.{length, take, drop, replicate, length-append, take-add, drop_at}
 use Rattle.std.proofs.Math.ListN.{get_or-eq_default}
 use Rattle.base.specs.Rows.{row}
 use Rattle.base.proofs.OrderLaws.{le_or_lt}

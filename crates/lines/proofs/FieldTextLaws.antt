@@ -1,7 +1,8 @@
 -- The fields of a line are the bytes of its text, in document 01's form: a right line, raised, is the text of
 -- its fields, and the text of legal fields reads as them.
 -- Assumes nothing.
-use Rattle.std.proofs.Common.{ℕ, ◌+◌, ◌*◌, ◌≤◌, ◌<◌, arith, ◌≡◌, refl, sym, ap, ◌∙◌, List, ◌++◌, get_or, take, replicate}
+use Rattle.std.proofs.Common.{ℕ, ◌+◌, ◌*◌, ◌≤◌, ◌<◌, arith, ◌≡◌, refl, sym, ap, ◌∙◌, List, ◌++◌, get_or}
+use Rattle.std.proofs.Common.{take, replicate}
 use Rattle.base.specs.Rows.{list_from, list_of}
 use Rattle.table.specs.declared.Task.{Task}
 use Rattle.table.specs.declared.Table.{Table}

@@ -10,7 +10,8 @@
 --   document 01's plan in mixed case is read as its table                  mixed_read
 --
 -- Assumes nothing.
-use Rattle.std.proofs.Common.{ℕ, zero, suc, ◌+◌, ◌≤◌, ◌<◌, arith, ◌≡◌, refl, sym, ap, ◌∙◌, ⊎_elim, List, [], ◌∷◌, length, replicate}
+use Rattle.std.proofs.Common.{ℕ, zero, suc, ◌+◌, ◌≤◌, ◌<◌, arith, ◌≡◌, refl, sym, ap, ◌∙◌, ⊎_elim, List, []}
+use Rattle.std.proofs.Common.{◌∷◌, length, replicate}
 use Rattle.std.proofs.Math.ListN.{get_or-replicate, get_or-eq_default}
 use Rattle.base.specs.Least.{first_from}
 use Rattle.base.proofs.OrderLaws.{le_or_lt}

@@ -1,6 +1,7 @@
 -- Whether the levels of a table are its places: the loop that looks for the first task where they are not,
 -- turn by turn, and what its answer says. Assumes nothing.
-use Rattle.std.proofs.Common.{ℕ, ◌+◌, ◌≤◌, ◌<◌, arith, ◌≡◌, refl, ap, ◌∙◌, Bool, true, false, not, eqb, eq-eqb, ne_eqb, eqb-true}
+use Rattle.std.proofs.Common.{ℕ, ◌+◌, ◌≤◌, ◌<◌, arith, ◌≡◌, refl, ap, ◌∙◌, Bool, true, false, not, eqb}
+use Rattle.std.proofs.Common.{eq-eqb, ne_eqb, eqb-true}
 use Rattle.base.specs.Choice.{pick}
 use Rattle.base.proofs.FirstLaws.{NoneTo, first_none, none_first, find_start, find_step, find_here}
 use Rattle.base.proofs.FirstLaws.{find_none}

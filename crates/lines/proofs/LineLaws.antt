@@ -1,7 +1,8 @@
 -- One line: its first fault is that of its frame, or else that of its fields; what a line answers; the part
 -- of a right line after its kind byte.
 -- Assumes nothing.
-use Rattle.std.proofs.Common.{ℕ, zero, suc, ◌+◌, ◌*◌, ◌-◌, ◌≤◌, ◌<◌, arith, ◌≡◌, refl, sym, ap, ◌∙◌, List, length, take, drop, length-drop, take_all}
+use Rattle.std.proofs.Common.{ℕ, zero, suc, ◌+◌, ◌*◌, ◌-◌, ◌≤◌, ◌<◌, arith, ◌≡◌, refl, sym, ap, ◌∙◌, List}
+use Rattle.std.proofs.Common.{length, take, drop, length-drop, take_all}
 use Rattle.base.specs.Choice.{or_else}
 use Rattle.table.specs.declared.Task.{Task}
 use Rattle.table.specs.Checks.{head_fault_of, task_fault}

@@ -1,7 +1,9 @@
 -- Reading task by task: what is known before each line, and which answer each way out of the lines has; then
 -- 12 on top of the front.
 -- Assumes nothing.
-use Rattle.std.proofs.Common.{ℕ, zero, suc, ◌+◌, ◌≤◌, ◌<◌, arith, ◌≡◌, refl, sym, ap, ap₂, subst, ◌∙◌, Bool, true, false, not, List, eqb, length, drop, set, replicate, length-drop, lt-ltb, le-ltb, eq-eqb, ne_eqb}
+use Rattle.std.proofs.Common.{ℕ, zero, suc, ◌+◌, ◌≤◌, ◌<◌, arith, ◌≡◌, refl, sym, ap, ap₂, subst, ◌∙◌, Bool}
+use Rattle.std.proofs.Common.{true, false, not, List, eqb, length, drop, set, replicate, length-drop}
+use Rattle.std.proofs.Common.{lt-ltb, le-ltb, eq-eqb, ne_eqb}
 use Rattle.base.specs.Choice.{or_else}
 use Rattle.base.specs.Rows.{row}
 use Rattle.base.proofs.FirstLaws.{NoneTo, first_is, first_none, find_start, find_step}

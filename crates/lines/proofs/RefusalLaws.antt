@@ -1,7 +1,8 @@
 -- Reading refuses with a number and a place exactly when document 01's table of refusals gives them:
 -- `front_stopped` goes by the way to the fault, `front_cases` finds that way for every text.
 -- Assumes nothing.
-use Rattle.std.proofs.Common.{ℕ, zero, suc, ◌+◌, ◌≤◌, ◌<◌, arith, ◌≡◌, refl, sym, ap, subst, ◌∙◌, ◌⊎◌, inl, inr, ⊎_elim, List, length}
+use Rattle.std.proofs.Common.{ℕ, zero, suc, ◌+◌, ◌≤◌, ◌<◌, arith, ◌≡◌, refl, sym, ap, subst, ◌∙◌, ◌⊎◌, inl}
+use Rattle.std.proofs.Common.{inr, ⊎_elim, List, length}
 use Rattle.base.proofs.OrderLaws.{le_or_lt, below_none, below_next}
 use Rattle.base.proofs.FirstLaws.{NoneTo}
 use Rattle.table.specs.declared.Table.{Table}

@@ -2,7 +2,9 @@
 -- their first 1,003 bytes have the same front, and those that are alike in 1,004 the same reading. So no more
 -- of a text need be held, and a raised text is read as the text is.
 -- Assumes nothing.
-use Rattle.std.proofs.Common.{ℕ, zero, suc, ◌+◌, ◌≤◌, ◌<◌, arith, ◌≡◌, refl, sym, ap, ◌∙◌, not, ⊎_elim, List, length, drop, leb, ltb, eqb, le-leb, lt-ltb, le-ltb, leb-true, leb-false}
+use Rattle.std.proofs.Common.{ℕ, zero, suc, ◌+◌, ◌≤◌, ◌<◌, arith, ◌≡◌, refl, sym, ap, ◌∙◌, not, ⊎_elim}
+use Rattle.std.proofs.Common.{List, length, drop, leb, ltb, eqb, le-leb, lt-ltb, le-ltb, leb-true}
+use Rattle.std.proofs.Common.{leb-false}
 use borrow.Author.Tests.{lt-leb}
 use Rattle.base.specs.Choice.{pick, or_else}
 use Rattle.base.proofs.OrderLaws.{le_or_lt}

@@ -1,6 +1,7 @@
 -- The lines of a plan, written one after the other: their lengths, and one turn of the loop over plain
 -- values. Assumes nothing.
-use Rattle.std.proofs.Common.{ℕ, zero, suc, ◌+◌, ◌*◌, ◌≤◌, ◌<◌, arith, add-one, ◌≡◌, refl, List, length, length-append}
+use Rattle.std.proofs.Common.{ℕ, zero, suc, ◌+◌, ◌*◌, ◌≤◌, ◌<◌, arith, add-one, ◌≡◌, refl, List, length}
+use Rattle.std.proofs.Common.{length-append}
 use Rattle.table.specs.Table.{task_at, LegalTable}
 use Rattle.table.specs.declared.Task.{Task}
 use Rattle.table.specs.declared.Table.{Table}

@@ -1,6 +1,7 @@
 -- A word that was written at the start of the rest of a buffer, which was lent and is back, is written at
 -- the place where the rest starts. Assumes nothing.
-use Rattle.std.proofs.Common.{ℕ, ◌+◌, ◌-◌, ◌≤◌, arith, ◌≡◌, ap, ◌∙◌, List, ◌++◌, append-nil, length, take, drop, length-drop, drop_of_length-le, drop-drop}
+use Rattle.std.proofs.Common.{ℕ, ◌+◌, ◌-◌, ◌≤◌, arith, ◌≡◌, ap, ◌∙◌, List, ◌++◌, append-nil, length, take}
+use Rattle.std.proofs.Common.{drop, length-drop, drop_of_length-le, drop-drop}
 use borrow.Rule.Slice.PartMut.{mid_of, put_mid}
 use Rattle.buffer.specs.Put.{Put}
 use Rattle.buffer.proofs.PutLaws.{put_start}

@@ -2,7 +2,8 @@
 -- it and on the changed one. Tasks are (T, C, D, flag), their
 -- levels are their places.
 -- Assumes nothing.
-use Rattle.std.proofs.Common.{ℕ, ◌≤◌, ◌<◌, arith, eq-or-lt_of_le, le_of_eq, ◌≡◌, refl, sym, ap, subst, ◌∙◌, inr, ⊎_elim, [], ◌∷◌}
+use Rattle.std.proofs.Common.{ℕ, ◌≤◌, ◌<◌, arith, eq-or-lt_of_le, le_of_eq, ◌≡◌, refl, sym, ap, subst, ◌∙◌}
+use Rattle.std.proofs.Common.{inr, ⊎_elim, [], ◌∷◌}
 use Rattle.base.specs.Sums.{sum_to, top_to}
 use Rattle.base.specs.Least.{least, first_from}
 use Rattle.base.specs.Rows.{at, list_from, row}

@@ -2,7 +2,8 @@
 -- 1 reaches the least length; a bound is never worse where B is nowhere larger, which gives Lemma 6. All rest
 -- on one fact, that B never falls as l grows, or as another task is made non-preemptive (`B-mono`). Assumes
 -- nothing.
-use Rattle.std.proofs.Common.{ℕ, zero, suc, ◌+◌, ◌-◌, ◌≤◌, ◌<◌, arith, ◌≡◌, refl, sym, Bool, true, false, ⊎_elim, le_refl, le_of_eq, leb-true, le-leb}
+use Rattle.std.proofs.Common.{ℕ, zero, suc, ◌+◌, ◌-◌, ◌≤◌, ◌<◌, arith, ◌≡◌, refl, sym, Bool, true, false}
+use Rattle.std.proofs.Common.{⊎_elim, le_refl, le_of_eq, leb-true, le-leb}
 use Rattle.base.specs.Least.{least, iterate}
 use Rattle.base.specs.Least.{NoWorse}
 use Rattle.base.proofs.LeastLaws.{least_says, no_worse_both}

@@ -2,7 +2,9 @@
 -- the m + 1 largest are at most (m + 1) / m times the m largest, so the whole sum grows by at most its m-th
 -- part and B never grows.
 -- Assumes nothing.
-use Rattle.std.proofs.Common.{ℕ, suc, ◌+◌, ◌*◌, ◌/◌, ◌≤◌, ◌<◌, arith, mul-le-mul_right, le-div_iff_mul-le, div-mul-le_self, le_of_mul-le-mul_right, eq-zero-or-pos, ◌≡◌, refl, ⊎_elim, List}
+use Rattle.std.proofs.Common.{ℕ, suc, ◌+◌, ◌*◌, ◌/◌, ◌≤◌, ◌<◌, arith, mul-le-mul_right, le-div_iff_mul-le}
+use Rattle.std.proofs.Common.{div-mul-le_self, le_of_mul-le-mul_right, eq-zero-or-pos, ◌≡◌, refl, ⊎_elim}
+use Rattle.std.proofs.Common.{List}
 use Rattle.base.specs.Sums.{sum_to, top_to}
 use Rattle.model.specs.Bound.{System, W, E, cap, share_of, block_of, B, bound}
 use Rattle.base.specs.Rows.{at}

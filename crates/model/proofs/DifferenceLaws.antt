@@ -1,7 +1,8 @@
 -- The differences of document 01's EDF sum, max(0, min(W, C - 1, l) - min(W, E, l)), are 0 without slack:
 -- E(k,i) is never below min(C_i, D_k), and no length of the range is above D_k.
 -- Assumes nothing.
-use Rattle.std.proofs.Common.{ℕ, zero, suc, ◌-◌, ◌≤◌, min, arith, sub-eq-zero_of_le, ◌≡◌, refl, Bool, true, false, eqb}
+use Rattle.std.proofs.Common.{ℕ, zero, suc, ◌-◌, ◌≤◌, min, arith, sub-eq-zero_of_le, ◌≡◌, refl, Bool, true}
+use Rattle.std.proofs.Common.{false, eqb}
 use Rattle.base.specs.Choice.{pick}
 use Rattle.model.proofs.ValidationLaws.{E-least}
 use Rattle.model.specs.Bound.{Policy, EDF, FP, System, block, cap, block_of}

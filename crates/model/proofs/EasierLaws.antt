@@ -2,7 +2,10 @@
 -- The workload alone may rise as C falls, since its window grows; cut off at l, as every sum cuts it off, it
 -- does not, since it is at least min(C, l).
 -- Assumes nothing.
-use Rattle.std.proofs.Common.{ℕ, zero, suc, ◌+◌, ◌*◌, ◌-◌, ◌/◌, ◌%◌, ◌≤◌, ◌<◌, min, arith, eq-or-lt_of_le, le_refl, le_trans, le-div_iff_mul-le, div-mul-le_self, div-add-mod', mod-lt, mul-le-mul_left, mul-le-mul_right, ◌≡◌, refl, sym, ap, ap₂, ⊎_elim, Bool, true, false, eqb, ltb}
+use Rattle.std.proofs.Common.{ℕ, zero, suc, ◌+◌, ◌*◌, ◌-◌, ◌/◌, ◌%◌, ◌≤◌, ◌<◌, min, arith, eq-or-lt_of_le}
+use Rattle.std.proofs.Common.{le_refl, le_trans, le-div_iff_mul-le, div-mul-le_self, div-add-mod', mod-lt}
+use Rattle.std.proofs.Common.{mul-le-mul_left, mul-le-mul_right, ◌≡◌, refl, sym, ap, ap₂, ⊎_elim, Bool}
+use Rattle.std.proofs.Common.{true, false, eqb, ltb}
 use Rattle.model.specs.Bound.{Policy, EDF, FP, System, Legal, work_in, W, E, share, block, by_flag}
 use Rattle.model.specs.Bound.{from, cap}
 use Rattle.model.specs.Bound.{share_of, block_of, B, bound}

@@ -3,7 +3,9 @@
 -- The idea, once over both policies: a task without a bound stays without one while others are made
 -- non-preemptive (`none_stays`, Lemma 6).
 -- Assumes nothing.
-use Rattle.std.proofs.Common.{ℕ, zero, suc, ◌+◌, ◌-◌, ◌≤◌, ◌<◌, arith, le_refl, eq-zero-or-pos, le_antisymm, ◌≡◌, refl, sym, ap, ap₂, ◌∙◌, ◌⊎◌, inl, inr, ⊎_elim, List, Bool, true, false, eqb, eqb-true}
+use Rattle.std.proofs.Common.{ℕ, zero, suc, ◌+◌, ◌-◌, ◌≤◌, ◌<◌, arith, le_refl, eq-zero-or-pos, le_antisymm}
+use Rattle.std.proofs.Common.{◌≡◌, refl, sym, ap, ap₂, ◌∙◌, ◌⊎◌, inl, inr, ⊎_elim, List, Bool, true, false}
+use Rattle.std.proofs.Common.{eqb, eqb-true}
 use borrow.Author.Tests.{eqb-false}
 use Rattle.base.specs.Least.{NoWorse}
 use Rattle.model.specs.Demands.{Timed, Passes, Settled, Holds, Flags, Step, Steps, stay}

@@ -2,9 +2,9 @@
 -- for a preemptive task and l + C - 1 for a non-preemptive one; and there is none exactly if no length of the
 -- range does. It is read off from what the search for the least length answers (`least_says`).
 -- Assumes nothing.
-use Rattle.std.proofs.Common.{ℕ, zero, suc, ◌+◌, ◌-◌, ◌≤◌, ◌<◌, arith, ◌≡◌, refl, sym, ap, ◌∙◌, ◌⊎◌, inl, inr, ⊎_elim, leb-true, leb-false, le-leb}
+use Rattle.std.proofs.Common.{ℕ, zero, suc, ◌+◌, ◌-◌, ◌≤◌, ◌<◌, arith, ◌≡◌, refl, sym, ap, ◌∙◌, ◌⊎◌, inl}
+use Rattle.std.proofs.Common.{inr, ⊎_elim, leb-true, leb-false, le-leb}
 use borrow.Author.Tests.{lt-leb}
-use Rattle.base.specs.Least.{least}
 use Rattle.model.specs.Bound.{System, by_flag, from, B, satisfies, least_length, plus, bound}
 use Rattle.model.specs.Lengths.{Smallest, Least, NoLength, BoundOf}
 use Rattle.base.proofs.LeastLaws.{least_says, least_is, least_none}

@@ -1,6 +1,7 @@
 -- The lowest-numbered task without a bound: what 0 and any other number mean, and when each is the answer.
 -- Assumes nothing.
-use Rattle.std.proofs.Common.{ℕ, suc, ◌<◌, arith, eq-zero-or-pos, ◌≡◌, Bool, false, List, ⊎_elim, eqb, eqb-true, eq-eqb, ne_eqb}
+use Rattle.std.proofs.Common.{ℕ, suc, ◌<◌, arith, eq-zero-or-pos, ◌≡◌, Bool, false, List, ⊎_elim, eqb}
+use Rattle.std.proofs.Common.{eqb-true, eq-eqb, ne_eqb}
 use borrow.Author.Tests.{eqb-false}
 use Rattle.base.specs.Rows.{at}
 use Rattle.base.proofs.FirstLaws.{First, first_is, first_none, none_first, is_first}

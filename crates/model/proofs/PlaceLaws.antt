@@ -1,7 +1,9 @@
 -- A task left out never raises a bound. The idea: where the places of one table go to different places of
 -- another, each sum over the one, and each choice of the m largest, is at most that over the other.
 -- Assumes nothing.
-use Rattle.std.proofs.Common.{ℕ, zero, suc, ◌+◌, ◌/◌, ◌≤◌, ◌<◌, arith, eq-or-lt_of_le, le_refl, le_antisymm, ◌≡◌, refl, sym, ap, ◌∙◌, ◌⊎◌, ⊎_elim, Bool, true, false, eqb, ltb, eqb-true, eq-eqb, ne_eqb}
+use Rattle.std.proofs.Common.{ℕ, zero, suc, ◌+◌, ◌/◌, ◌≤◌, ◌<◌, arith, eq-or-lt_of_le, le_refl, le_antisymm}
+use Rattle.std.proofs.Common.{◌≡◌, refl, sym, ap, ◌∙◌, ◌⊎◌, ⊎_elim, Bool, true, false, eqb, ltb, eqb-true}
+use Rattle.std.proofs.Common.{eq-eqb, ne_eqb}
 use borrow.Author.Tests.{eqb-false}
 use Rattle.base.specs.Choice.{pick}
 use Rattle.base.specs.Sums.{sum_to, top_to}

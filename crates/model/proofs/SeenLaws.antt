@@ -3,7 +3,9 @@
 -- together: the bound depends on what the task sees alone. The idea: a task that is not seen adds 0 to the
 -- sum and 0 to the candidates, so the sum over the places is the sum over the list of what is seen.
 -- Assumes nothing.
-use Rattle.std.proofs.Common.{ℕ, zero, suc, ◌+◌, ◌-◌, ◌/◌, ◌≤◌, ◌<◌, max, arith, le_of_eq, le_refl, le_antisymm, ◌≡◌, refl, sym, ap₂, List, [], ◌∷◌, Bool, true, false, ◌⊎◌, inl, inr, ⊎_elim, eqb, eqb-true}
+use Rattle.std.proofs.Common.{ℕ, zero, suc, ◌+◌, ◌-◌, ◌/◌, ◌≤◌, ◌<◌, max, arith, le_of_eq, le_refl}
+use Rattle.std.proofs.Common.{le_antisymm, ◌≡◌, refl, sym, ap₂, List, [], ◌∷◌, Bool, true, false, ◌⊎◌, inl}
+use Rattle.std.proofs.Common.{inr, ⊎_elim, eqb, eqb-true}
 use borrow.Author.Tests.{eqb-false}
 use Rattle.base.specs.Choice.{pick}
 use Rattle.base.specs.Sums.{sum_to, top_to}

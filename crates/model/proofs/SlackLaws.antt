@@ -2,7 +2,9 @@
 -- max(0, D_k - S_i); and the differences of document 01's EDF sum under slacks, min(C_i - 1, l) -
 -- max(0, D_k - S_i) where that is above 0. Neither W nor D_i > D_k shows in them.
 -- Assumes nothing.
-use Rattle.std.proofs.Common.{ℕ, zero, suc, ◌+◌, ◌*◌, ◌-◌, ◌/◌, ◌%◌, ◌≤◌, ◌<◌, min, arith, div-add-mod', mod-lt, sub-eq-zero_of_le, ◌≡◌, refl, sym, ap, ◌∙◌, ⊎_elim, Bool, true, false, eqb, ltb, ltb-false}
+use Rattle.std.proofs.Common.{ℕ, zero, suc, ◌+◌, ◌*◌, ◌-◌, ◌/◌, ◌%◌, ◌≤◌, ◌<◌, min, arith, div-add-mod'}
+use Rattle.std.proofs.Common.{mod-lt, sub-eq-zero_of_le, ◌≡◌, refl, sym, ap, ◌∙◌, ⊎_elim, Bool, true, false}
+use Rattle.std.proofs.Common.{eqb, ltb, ltb-false}
 use Rattle.std.proofs.Math.Nat.{div-eq_of_lt-le}
 use Rattle.base.specs.Choice.{pick}
 use Rattle.base.proofs.OrderLaws.{le_or_lt}

@@ -3,7 +3,9 @@
 -- task without a bound stays without one while its own flag stays, so flags at which nothing is to be forced
 -- hold whatever a step forces.
 -- Assumes nothing.
-use Rattle.std.proofs.Common.{ℕ, zero, suc, ◌+◌, ◌≤◌, ◌<◌, arith, eq-zero-or-pos, eq-or-lt_of_le, le_antisymm, le_of_eq, le_refl, ◌≡◌, refl, sym, ◌∙◌, inl, inr, ⊎_elim, List, eqb, eq-eqb, ne_eqb}
+use Rattle.std.proofs.Common.{ℕ, zero, suc, ◌+◌, ◌≤◌, ◌<◌, arith, eq-zero-or-pos, eq-or-lt_of_le}
+use Rattle.std.proofs.Common.{le_antisymm, le_of_eq, le_refl, ◌≡◌, refl, sym, ◌∙◌, inl, inr, ⊎_elim, List}
+use Rattle.std.proofs.Common.{eqb, eq-eqb, ne_eqb}
 use Rattle.base.specs.Choice.{pick}
 use Rattle.base.specs.Sums.{sum_to}
 use Rattle.model.specs.Bound.{System, bound}

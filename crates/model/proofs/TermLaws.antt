@@ -1,7 +1,9 @@
 -- Laws of the terms of B: each share, alone and with its candidate, never falls as its numbers grow or as its
 -- task is made non-preemptive, hence neither does B; and no term is above q. By cases on the table of sums.
 -- Assumes nothing.
-use Rattle.std.proofs.Common.{ℕ, zero, suc, ◌+◌, ◌*◌, ◌-◌, ◌/◌, ◌%◌, ◌≤◌, ◌<◌, min, arith, ◌≡◌, refl, Bool, true, false, ⊎_elim, mul-le-mul_right, eq-or-lt_of_le, div-mul-le_self, div-add-mod', le-div_iff_mul-le, le_trans, eq-zero-or-pos, le_refl, ltb, eqb}
+use Rattle.std.proofs.Common.{ℕ, zero, suc, ◌+◌, ◌*◌, ◌-◌, ◌/◌, ◌%◌, ◌≤◌, ◌<◌, min, arith, ◌≡◌, refl, Bool}
+use Rattle.std.proofs.Common.{true, false, ⊎_elim, mul-le-mul_right, eq-or-lt_of_le, div-mul-le_self}
+use Rattle.std.proofs.Common.{div-add-mod', le-div_iff_mul-le, le_trans, eq-zero-or-pos, le_refl, ltb, eqb}
 use Rattle.std.proofs.Math.Nat.{div-zero}
 use Rattle.base.specs.Choice.{pick}
 use Rattle.base.proofs.SumLaws.{whole_mono}

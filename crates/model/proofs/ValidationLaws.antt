@@ -2,7 +2,8 @@
 -- nothing competes. The idea of `bound_alone`: at the first length q is 1, so each other task adds at most 1
 -- to the sum, in all less than m.
 -- Assumes nothing.
-use Rattle.std.proofs.Common.{ℕ, zero, suc, ◌+◌, ◌*◌, ◌-◌, ◌/◌, ◌≤◌, ◌<◌, min, arith, eq-or-lt_of_le, le_refl, ◌≡◌, refl, ap, ⊎_elim, Bool, true, false, eqb, eq-eqb}
+use Rattle.std.proofs.Common.{ℕ, zero, suc, ◌+◌, ◌*◌, ◌-◌, ◌/◌, ◌≤◌, ◌<◌, min, arith, eq-or-lt_of_le}
+use Rattle.std.proofs.Common.{le_refl, ◌≡◌, refl, ap, ⊎_elim, Bool, true, false, eqb, eq-eqb}
 use Rattle.std.proofs.Math.Nat.{div-eq_of_lt}
 use Rattle.base.specs.Choice.{pick}
 use Rattle.base.specs.Sums.{sum_to}

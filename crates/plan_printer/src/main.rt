@@ -10,6 +10,8 @@
 ghost use Rattle.std.specs.Prelude.{◌≤◌, length, replicate};
 ghost use Rattle.listing.specs.Listing.{Ready};
 
+use std::io::Read;
+
 use listing::Sent;
 
 // How many bytes were read, and whether a read failed.
@@ -19,21 +21,29 @@ struct Input {
     failed: bool,
 }
 
-// Reads until the buffer is full, the input ends or a read fails, which its negative answer tells.
-fn read_text(text: &mut [u8]) -> Input
+// Reads until the buffer is full, the input ends or a read fails.
+fn read_text<R: Read>(from: &mut R, text: &mut [u8]) -> Input
     ensures { result.count ≤ length text.new }
 {
     let mut count: usize = 0;
     while count < text.len() {
-        let got = libc::read(0, &mut text[count..]);
-        let more = io::count(got, &text[count..]);
-        if more == 0 {
-            return Input {
-                count: count,
-                failed: got < 0,
-            };
+        match from.read(&mut text[count..]) {
+            Ok(more) => {
+                if more == 0 {
+                    return Input {
+                        count: count,
+                        failed: false,
+                    };
+                }
+                count += more;
+            }
+            Err(_) => {
+                return Input {
+                    count: count,
+                    failed: true,
+                };
+            }
         }
-        count += more;
     }
     Input {
         count: count,
@@ -43,16 +53,7 @@ fn read_text(text: &mut [u8]) -> Input
 
 // Writes until all is written or a write fails, and says whether all was.
 fn write_text(fd: i32, text: &[u8]) -> bool {
-    let mut done: usize = 0;
-    while done < text.len() {
-        let got = libc::write(fd, &text[done..]);
-        let more = io::count(got, &text[done..]);
-        if more == 0 {
-            return false;
-        }
-        done += more;
-    }
-    true
+    io::write_all(fd, text)
 }
 
 // What is to be listed of the input, if it could be read.
@@ -63,11 +64,11 @@ struct Heard {
 }
 
 // The input is read, and forced. The text is gone when the listing is written.
-fn hear() -> Heard
+fn hear<R: Read>(from: &mut R) -> Heard
     ensures { Ready result.sent.table result.sent.done (replicate 2048 0) }
 {
     let mut text = [0u8; 1004];
-    let input = read_text(&mut text);
+    let input = read_text(from, &mut text);
     let n = input.count;
     Heard {
         failed: input.failed,
@@ -89,8 +90,9 @@ fn print(sent: Sent)
     }
 }
 
-fn main() {
-    let heard = hear();
+fn main(rt: HostRuntime) {
+    let mut from = rt.stdin();
+    let heard = hear(&mut from);
     if heard.failed {
         write_text(2, b"plan_printer: standard input could not be read\n");
         return;

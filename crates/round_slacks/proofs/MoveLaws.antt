@@ -1,6 +1,7 @@
 -- The loops of one round: a row that is filled again, and the slacks that are moved in place.
 -- Assumes nothing.
-use Rattle.std.proofs.Common.{ℕ, zero, suc, ◌+◌, ◌-◌, ◌≤◌, ◌<◌, arith, ◌≡◌, refl, sym, ap, ap₂, ◌∙◌, List, length, set, replicate}
+use Rattle.std.proofs.Common.{ℕ, zero, suc, ◌+◌, ◌-◌, ◌≤◌, ◌<◌, arith, ◌≡◌, refl, sym, ap, ap₂, ◌∙◌, List}
+use Rattle.std.proofs.Common.{length, set, replicate}
 use Rattle.base.specs.Rows.{at, row}
 use Rattle.base.proofs.OrderLaws.{below_next}
 use Rattle.base.proofs.RowLaws.{row_length, row_at, row_past, row_is, row_same, fill_start}

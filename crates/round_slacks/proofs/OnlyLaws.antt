@@ -1,7 +1,8 @@
 -- Of n places the one where a number is not 0: each step of the loop that looks for it, and what it says of
 -- all.
 -- Assumes nothing.
-use Rattle.std.proofs.Common.{ℕ, zero, suc, ◌+◌, ◌≤◌, ◌<◌, arith, eq-or-lt_of_le, add-one, ◌≡◌, refl, ap, ap₂, ◌∙◌, Bool, true, false, ⊎_elim, eqb, eq-eqb, ne_eqb, eqb-true}
+use Rattle.std.proofs.Common.{ℕ, zero, suc, ◌+◌, ◌≤◌, ◌<◌, arith, eq-or-lt_of_le, add-one, ◌≡◌, refl, ap}
+use Rattle.std.proofs.Common.{ap₂, ◌∙◌, Bool, true, false, ⊎_elim, eqb, eq-eqb, ne_eqb, eqb-true}
 use borrow.Author.Tests.{eqb-false}
 use Rattle.base.specs.Choice.{pick, or_else}
 use Rattle.base.specs.Sums.{sum_to}

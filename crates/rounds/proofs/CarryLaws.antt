@@ -4,7 +4,8 @@
 -- one, and the lowest-numbered preemptive task is never called for. Lemma 6 under edition 2, which is
 -- false, is not used.
 -- Assumes nothing.
-use Rattle.std.proofs.Common.{ℕ, zero, suc, ◌-◌, ◌<◌, arith, le_refl, eq-zero-or-pos, eq-or-lt_of_le, ◌≡◌, refl, ap, ◌∙◌, inl, ⊎_elim, List}
+use Rattle.std.proofs.Common.{ℕ, zero, suc, ◌-◌, ◌<◌, arith, le_refl, eq-zero-or-pos, eq-or-lt_of_le, ◌≡◌}
+use Rattle.std.proofs.Common.{refl, ap, ◌∙◌, inl, ⊎_elim, List}
 use Rattle.base.specs.Rows.{at}
 use Rattle.base.proofs.SumLaws.{sum_part}
 use Rattle.model.specs.Bound.{System, Legal}

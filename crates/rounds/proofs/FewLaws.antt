@@ -2,7 +2,8 @@
 -- rounds, and there are at most n + 1 rounds. So it is under FP by places where all tasks are of one kind;
 -- many rounds need EDF, or tasks of both kinds.
 -- Assumes nothing.
-use Rattle.std.proofs.Common.{ℕ, zero, suc, ◌+◌, ◌-◌, ◌≤◌, ◌<◌, arith, eq-zero-or-pos, ◌≡◌, refl, sym, ap, ◌∙◌, ⊎_elim, Bool, true, false, List, eqb, ne_eqb}
+use Rattle.std.proofs.Common.{ℕ, zero, suc, ◌+◌, ◌-◌, ◌≤◌, ◌<◌, arith, eq-zero-or-pos, ◌≡◌, refl, sym, ap}
+use Rattle.std.proofs.Common.{◌∙◌, ⊎_elim, Bool, true, false, List, eqb, ne_eqb}
 use Rattle.base.specs.Choice.{pick}
 use Rattle.base.specs.Rows.{at}
 use Rattle.base.proofs.OrderLaws.{le_or_lt}

@@ -1,7 +1,8 @@
 -- All passes, as document 02 describes them: the definition's are such passes (`forced_is`), and any such
 -- passes end with its flags, bounds, round count and number (`forced_only`).
 -- Assumes nothing.
-use Rattle.std.proofs.Common.{ℕ, zero, suc, ◌+◌, ◌≤◌, ◌<◌, arith, eq-zero-or-pos, ◌≡◌, refl, sym, subst, inl, inr, ⊎_elim, List}
+use Rattle.std.proofs.Common.{ℕ, zero, suc, ◌+◌, ◌≤◌, ◌<◌, arith, eq-zero-or-pos, ◌≡◌, refl, sym, subst}
+use Rattle.std.proofs.Common.{inl, inr, ⊎_elim, List}
 use Rattle.base.specs.Sums.{sum_to}
 use Rattle.base.specs.Rows.{at}
 use Rattle.base.proofs.SumLaws.{sum_part}

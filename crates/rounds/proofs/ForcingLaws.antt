@@ -1,7 +1,8 @@
 -- Forcing under edition 2: what one change does, and that passes end, at most p + 1 of them, in a table
 -- that passes or in one whose tasks are all non-preemptive.
 -- Assumes nothing.
-use Rattle.std.proofs.Common.{ℕ, zero, suc, ◌+◌, ◌-◌, ◌≤◌, ◌<◌, arith, le_refl, eq-zero-or-pos, ◌≡◌, refl, subst, ◌⊎◌, inl, inr, ⊎_elim, Bool, true, false, List, eqb, eq-eqb, ne_eqb}
+use Rattle.std.proofs.Common.{ℕ, zero, suc, ◌+◌, ◌-◌, ◌≤◌, ◌<◌, arith, le_refl, eq-zero-or-pos, ◌≡◌, refl}
+use Rattle.std.proofs.Common.{subst, ◌⊎◌, inl, inr, ⊎_elim, Bool, true, false, List, eqb, eq-eqb, ne_eqb}
 use Rattle.base.specs.Choice.{pick}
 use Rattle.base.specs.Sums.{sum_to}
 use Rattle.base.specs.Rows.{at}

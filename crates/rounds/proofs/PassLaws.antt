@@ -1,7 +1,8 @@
 -- The loop of passes, as code will run it: what it knows before a test, and what the test makes of it. A
 -- test is known by its bounds and its round count; its slacks stay inside it.
 -- Assumes nothing.
-use Rattle.std.proofs.Common.{ℕ, zero, suc, ◌+◌, ◌≤◌, ◌<◌, arith, ◌≡◌, refl, sym, ap, ap₂, ◌∙◌, ◌⊎◌, inl, inr, ⊎_elim, List, eqb}
+use Rattle.std.proofs.Common.{ℕ, zero, suc, ◌+◌, ◌≤◌, ◌<◌, arith, ◌≡◌, refl, sym, ap, ap₂, ◌∙◌, ◌⊎◌, inl}
+use Rattle.std.proofs.Common.{inr, ⊎_elim, List, eqb}
 use Rattle.base.specs.Choice.{pick, or_else}
 use Rattle.base.specs.Sums.{sum_to}
 use Rattle.base.specs.Rows.{at}

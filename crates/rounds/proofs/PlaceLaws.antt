@@ -1,7 +1,8 @@
 -- The two places that forcing looks for: the lowest task without a bound, and the lowest preemptive one.
 -- What their numbers say, and what 0 says.
 -- Assumes nothing.
-use Rattle.std.proofs.Common.{ℕ, ◌-◌, ◌<◌, arith, eq-zero-or-pos, ◌≡◌, sym, ap, ⊎_elim, Bool, List, ltb, eqb, ltb-true, ltb-false, le-ltb}
+use Rattle.std.proofs.Common.{ℕ, ◌-◌, ◌<◌, arith, eq-zero-or-pos, ◌≡◌, sym, ap, ⊎_elim, Bool, List, ltb}
+use Rattle.std.proofs.Common.{eqb, ltb-true, ltb-false, le-ltb}
 use Rattle.base.specs.Rows.{at}
 use Rattle.base.proofs.FirstLaws.{First, first_none, none_first, is_first, first_same}
 use Rattle.model.specs.Bound.{System}

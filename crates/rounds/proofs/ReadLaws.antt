@@ -2,12 +2,14 @@
 -- non-preemptive task the higher ones alone. So a round need not work out a bound again where none of these
 -- has changed.
 -- Assumes nothing.
-use Rattle.std.proofs.Common.{ℕ, zero, suc, ◌+◌, ◌-◌, ◌/◌, ◌≤◌, ◌<◌, min, arith, le_refl, le_of_eq, ◌≡◌, refl, sym, ap, ap₂, ◌∙◌, subst, Bool, true, false, ◌∷◌, eqb, ltb}
+use Rattle.std.proofs.Common.{ℕ, zero, suc, ◌+◌, ◌-◌, ◌/◌, ◌≤◌, ◌<◌, min, arith, le_refl, le_of_eq, ◌≡◌}
+use Rattle.std.proofs.Common.{refl, sym, ap, ap₂, ◌∙◌, subst, Bool, true, false, ◌∷◌, eqb, ltb}
 use borrow.Author.Tests.{eqb-false}
 use Rattle.base.specs.Choice.{pick}
 use Rattle.base.proofs.SumLaws.{sum_same, top_same}
 use Rattle.base.proofs.LeastLaws.{no_worse_both}
-use Rattle.model.specs.Bound.{FP, System, under, work_in, W, E, share, block, cap, share_of, block_of, B, bound}
+use Rattle.model.specs.Bound.{FP, System, under, work_in, W, E, share, block, cap, share_of, block_of, B}
+use Rattle.model.specs.Bound.{bound}
 use Rattle.model.specs.Seen.{seen_at, sees, seen_to, seen}
 use Rattle.model.proofs.BoundLaws.{bound_from_b}
 use Rattle.model.proofs.SeenLaws.{fp_independent}

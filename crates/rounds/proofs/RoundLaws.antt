@@ -1,7 +1,9 @@
 -- One round and the next: no slack falls, no bound rises or is lost, and the rounds end. The idea: slack is
 -- earned by a bound (`Earned`), and under larger slacks no bound is worse (`bound_order` of the model).
 -- Assumes nothing.
-use Rattle.std.proofs.Common.{ℕ, zero, suc, ◌+◌, ◌-◌, ◌≤◌, ◌<◌, arith, le_refl, eq-zero-or-pos, eq-or-lt_of_le, ◌≡◌, refl, sym, ap, ◌∙◌, ⊎_elim, Bool, true, false, List, eqb, eqb-true}
+use Rattle.std.proofs.Common.{ℕ, zero, suc, ◌+◌, ◌-◌, ◌≤◌, ◌<◌, arith, le_refl, eq-zero-or-pos}
+use Rattle.std.proofs.Common.{eq-or-lt_of_le, ◌≡◌, refl, sym, ap, ◌∙◌, ⊎_elim, Bool, true, false, List, eqb}
+use Rattle.std.proofs.Common.{eqb-true}
 use borrow.Author.Tests.{eqb-false}
 use Rattle.base.specs.Choice.{pick, or_else}
 use Rattle.base.specs.Sums.{sum_to}
@@ -9,7 +11,7 @@ use Rattle.base.specs.Least.{NoWorse}
 use Rattle.base.specs.Rows.{at}
 use Rattle.base.proofs.SumLaws.{sum_mono, sum_add, sum_part}
 use Rattle.base.proofs.RowLaws.{list_at}
-use Rattle.model.specs.Bound.{System, Legal, under, bound}
+use Rattle.model.specs.Bound.{System, Legal, under}
 use Rattle.model.proofs.BoundLaws.{bound_order, bound_range}
 use Rattle.model.proofs.ForcingLaws.{test_at}
 use Rattle.rounds.specs.Rounds.{no_slack, bounds_in, slack_after, slacks_after, changes, Tested}

@@ -2,7 +2,8 @@
 -- described have its count, slacks and bounds (`rounds_only`, `slacks_only`, `bounds_only`). Its slacks at
 -- rest are the least from which no round raises one (`least_rest`).
 -- Assumes nothing.
-use Rattle.std.proofs.Common.{ℕ, zero, suc, ◌-◌, ◌≤◌, ◌<◌, arith, le_refl, le_of_eq, eq-zero-or-pos, eq-or-lt_of_le, ◌≡◌, refl, sym, ap, ◌∙◌, subst, ⊎_elim, List, eqb, eq-eqb}
+use Rattle.std.proofs.Common.{ℕ, zero, suc, ◌-◌, ◌≤◌, ◌<◌, arith, le_refl, le_of_eq, eq-zero-or-pos}
+use Rattle.std.proofs.Common.{eq-or-lt_of_le, ◌≡◌, refl, sym, ap, ◌∙◌, subst, ⊎_elim, List, eqb, eq-eqb}
 use Rattle.base.specs.Choice.{pick}
 use Rattle.base.specs.Rows.{at}
 use Rattle.base.proofs.SumLaws.{sum_cap}

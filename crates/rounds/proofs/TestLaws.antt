@@ -1,7 +1,8 @@
 -- The test of edition 2: each bound is the least under the slacks at the start of the last round, and no
 -- worse than edition 1's; the slacks at rest; how many rounds there are; all rounds beside each other.
 -- Assumes nothing.
-use Rattle.std.proofs.Common.{ℕ, zero, suc, ◌+◌, ◌*◌, ◌-◌, ◌≤◌, ◌<◌, arith, le_refl, le_trans, le_of_eq, eq-zero-or-pos, eq-or-lt_of_le, ◌≡◌, refl, sym, ap, ◌∙◌, ◌↔◌, ⊎_elim, List}
+use Rattle.std.proofs.Common.{ℕ, zero, suc, ◌+◌, ◌*◌, ◌-◌, ◌≤◌, ◌<◌, arith, le_refl, le_trans, le_of_eq}
+use Rattle.std.proofs.Common.{eq-zero-or-pos, eq-or-lt_of_le, ◌≡◌, refl, sym, ap, ◌∙◌, ◌↔◌, ⊎_elim, List}
 use Rattle.base.specs.Sums.{sum_to}
 use Rattle.base.specs.Least.{NoWorse}
 use Rattle.base.specs.Rows.{at}

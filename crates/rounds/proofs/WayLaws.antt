@@ -4,7 +4,9 @@
 -- where no round count is given out; and rounds whose slacks are known are counted without being worked out
 -- (`rounds_skip`).
 -- Assumes nothing.
-use Rattle.std.proofs.Common.{ℕ, zero, suc, ◌+◌, ◌-◌, ◌≤◌, ◌<◌, arith, le_refl, le_trans, le_of_eq, le_antisymm, eq-zero-or-pos, ◌≡◌, refl, sym, ap, ap₂, ◌∙◌, subst, ◌⊎◌, ⊎_elim, false, List, leb-false}
+use Rattle.std.proofs.Common.{ℕ, zero, suc, ◌+◌, ◌-◌, ◌≤◌, ◌<◌, arith, le_refl, le_trans, le_of_eq}
+use Rattle.std.proofs.Common.{le_antisymm, eq-zero-or-pos, ◌≡◌, refl, sym, ap, ap₂, ◌∙◌, subst, ◌⊎◌, ⊎_elim}
+use Rattle.std.proofs.Common.{false, List, leb-false}
 use borrow.Author.Tests.{lt-leb}
 use Rattle.base.specs.Least.{NoWorse}
 use Rattle.base.specs.Rows.{at}

@@ -5,7 +5,7 @@
 -- Assumes nothing.
 use Rattle.std.proofs.Common.{ℕ, ◌<◌, arith, eq-zero-or-pos, sym, subst, ⊎_elim, List}
 use Rattle.base.specs.Rows.{at}
-use Rattle.model.specs.Bound.{System, Legal, under, bound}
+use Rattle.model.specs.Bound.{System, Legal, under}
 use Rattle.model.proofs.BoundLaws.{bound_range}
 use Rattle.schedule.specs.Schedule.{Run, busy, lower, Follows}
 use Rattle.schedule.specs.Promise.{Bounded, Kept}

@@ -1,6 +1,7 @@
 -- A row that is filled place by place from what it held, and has 0 put in one place at the end.
 -- Assumes nothing.
-use Rattle.std.proofs.Common.{ℕ, ◌+◌, ◌≤◌, ◌<◌, arith, ◌≡◌, refl, ap, ◌∙◌, Bool, true, false, List, length, set, length-set, get_or-set_same, get_or-set_other, eqb, eqb-true}
+use Rattle.std.proofs.Common.{ℕ, ◌+◌, ◌≤◌, ◌<◌, arith, ◌≡◌, refl, ap, ◌∙◌, Bool, true, false, List, length}
+use Rattle.std.proofs.Common.{set, length-set, get_or-set_same, get_or-set_other, eqb, eqb-true}
 use borrow.Author.Tests.{eqb-false}
 use Rattle.base.specs.Choice.{pick}
 use Rattle.base.specs.Rows.{at}

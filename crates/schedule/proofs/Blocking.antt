@@ -3,8 +3,10 @@
 -- are at most cores of them, each has C - 1 quanta left at most, and no other job of its task executes in the
 -- window.
 -- Assumes nothing.
-use Rattle.std.proofs.Common.{ℕ, zero, suc, ◌+◌, ◌*◌, ◌-◌, ◌≤◌, ◌<◌, arith, eq-or-lt_of_le, eq-zero-or-pos, le_trans, ◌≡◌, refl, sym, ap, ◌∙◌, Bool, true, false, ⊎_elim, ltb, ltb-true, lt-ltb}
-use borrow.Author.Tests.{not_true}
+use Rattle.std.proofs.Common.{ℕ, zero, suc, ◌+◌, ◌*◌, ◌-◌, ◌≤◌, ◌<◌, arith, eq-or-lt_of_le, eq-zero-or-pos}
+use Rattle.std.proofs.Common.{le_trans, ◌≡◌, refl, sym, ap, ◌∙◌, Bool, true, false, ⊎_elim, ltb, ltb-true}
+use Rattle.std.proofs.Common.{lt-ltb}
+use borrow.Author.Tests.{not-true}
 use Rattle.base.specs.Sums.{sum_to}
 use Rattle.base.specs.Choice.{pick}
 use Rattle.model.specs.Bound.{Policy, EDF, FP, System}
@@ -215,7 +217,7 @@ module _ {s : System} {fl : ℕ → ℕ} {x : Run} {k a r l : ℕ} (f : Base s f
         (omega (arith, v.before, after e, (f.rules.only i c p lt v.on).released))
 
     pub blocker_not_higher : s.policy ≡ FP → s.higher k i ≡ false
-    blocker_not_higher e = not_true (s.higher k i) (sym (lower_fp s x k a i c e) ∙ v.low)
+    blocker_not_higher e = not-true (s.higher k i) (sym (lower_fp s x k a i c e) ∙ v.low)
 
     -- it has executed in p, so C - 1 quanta are left
     pub blocker_short : spent x r l i c ≤ s.C i - 1

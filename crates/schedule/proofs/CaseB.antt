@@ -2,7 +2,8 @@
 -- kept, is reached exactly by a schedule that follows the rules, and is lost under the weaker rule (13
 -- quanta).
 -- Assumes nothing.
-use Rattle.std.proofs.Common.{ℕ, zero, suc, ◌+◌, ◌≤◌, ◌<◌, arith, ◌≡◌, refl, ap, ◌∙◌, subst, true, false, [], ◌∷◌}
+use Rattle.std.proofs.Common.{ℕ, zero, suc, ◌+◌, ◌≤◌, ◌<◌, arith, ◌≡◌, refl, ap, ◌∙◌, subst, true, false}
+use Rattle.std.proofs.Common.{[], ◌∷◌}
 use Rattle.base.specs.Sums.{sum_to, top_to}
 use Rattle.base.specs.Least.{least, first_from}
 use Rattle.model.specs.Bound.{

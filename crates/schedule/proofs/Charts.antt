@@ -2,7 +2,9 @@
 -- every job that counts, in every quantum of the row, and outside of these nothing is asked and nothing
 -- executes. So the rules for a concrete schedule are shown by computing.
 -- Assumes nothing.
-use Rattle.std.proofs.Common.{ℕ, zero, suc, ◌+◌, ◌*◌, ◌≤◌, ◌<◌, arith, le_refl, ◌≡◌, refl, ap, Bool, true, false, not, ◌&&◌, ◌||◌, List, ◌⊎◌, inl, inr, ⊎_elim, leb, ltb, eqb, get_or, length, leb-true, ltb-true, eqb-true, le-leb, lt-ltb, le-ltb, eq-eqb, ne_eqb}
+use Rattle.std.proofs.Common.{ℕ, zero, suc, ◌+◌, ◌*◌, ◌≤◌, ◌<◌, arith, le_refl, ◌≡◌, refl, ap, Bool, true}
+use Rattle.std.proofs.Common.{false, not, ◌&&◌, ◌||◌, List, ◌⊎◌, inl, inr, ⊎_elim, leb, ltb, eqb, get_or}
+use Rattle.std.proofs.Common.{length, leb-true, ltb-true, eqb-true, le-leb, lt-ltb, le-ltb, eq-eqb, ne_eqb}
 use Rattle.base.specs.Sums.{sum_to}
 use Rattle.base.specs.Choice.{pick}
 use Rattle.model.specs.Bound.{System}

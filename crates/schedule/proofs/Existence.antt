@@ -1,9 +1,11 @@
 -- A schedule that follows the rules exists for every legal table, flags, policy, levels, releases and needs:
 -- the greedy one, each rule being one law of its quantum.
 -- Assumes nothing.
-use Rattle.std.proofs.Common.{ℕ, zero, suc, ◌+◌, ◌*◌, ◌/◌, ◌%◌, ◌≤◌, ◌<◌, arith, eq-or-lt_of_le, mod-eq_of_lt, ◌≡◌, sym, ap, ap₂, ◌∙◌, Bool, true, false, ⊎_elim, ltb, leb, ltb-true, ltb-false, leb-false}
+use Rattle.std.proofs.Common.{ℕ, zero, suc, ◌+◌, ◌*◌, ◌/◌, ◌%◌, ◌≤◌, ◌<◌, arith, eq-or-lt_of_le}
+use Rattle.std.proofs.Common.{mod-eq_of_lt, ◌≡◌, sym, ap, ap₂, ◌∙◌, Bool, true, false, ⊎_elim, ltb, leb}
+use Rattle.std.proofs.Common.{ltb-true, ltb-false, leb-false}
 use Rattle.std.proofs.Math.Nat.{mul-add-mod_self_right, add-mul-div_right, div-eq_of_lt}
-use borrow.Author.Tests.{not_true}
+use borrow.Author.Tests.{not-true}
 use Rattle.base.specs.Sums.{sum_to}
 use Rattle.model.specs.Bound.{Policy, EDF, FP, System, Legal}
 use Rattle.schedule.specs.Schedule.{Run, done, busy, Pending, lower, lower_by, Basic, Follows}
@@ -31,7 +33,7 @@ use Rattle.schedule.proofs.Greedy.{
 lower_prio : (q : Policy) (h : Bool) (u u' d d' : ℕ) → (h ≡ false → u < u') → lower_by q h d d' ≡ true
     → prio_by q u d < prio_by q u' d'
 unfolding prio_by lower_by
-lower_prio FP h u u' d d' f low = f (not_true h low)
+lower_prio FP h u u' d d' f low = f (not-true h low)
 lower_prio EDF h u u' d d' f low = ltb-true d d' low
 
 -- the place of a job in the row, and back

@@ -3,7 +3,8 @@
 -- quanta. `Base` is what the proof of the theorem uses of a table and of its rules: of A5 only that a lower
 -- job is non-preemptive, so that it serves the weaker rule of OneByOne as well.
 -- Assumes nothing.
-use Rattle.std.proofs.Common.{ℕ, zero, suc, ◌+◌, ◌≤◌, ◌<◌, arith, eq-or-lt_of_le, eq-zero-or-pos, ◌≡◌, refl, true, ⊎_elim}
+use Rattle.std.proofs.Common.{ℕ, zero, suc, ◌+◌, ◌≤◌, ◌<◌, arith, eq-or-lt_of_le, eq-zero-or-pos, ◌≡◌, refl}
+use Rattle.std.proofs.Common.{true, ⊎_elim}
 use Rattle.base.specs.Sums.{sum_to}
 use Rattle.model.specs.Bound.{System}
 use Rattle.base.proofs.OrderLaws.{le_or_lt}

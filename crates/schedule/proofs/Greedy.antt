@@ -3,7 +3,8 @@
 -- what it has executed before t is had t p, and it executes at t where it is among the best by its key. Here
 -- are the laws of one quantum.
 -- Assumes nothing.
-use Rattle.std.proofs.Common.{ℕ, zero, suc, ◌+◌, ◌*◌, ◌-◌, ◌/◌, ◌%◌, ◌≤◌, ◌<◌, min, arith, eq-zero-or-pos, le_trans, div-lt_iff_lt-mul, mod-lt, ◌≡◌, refl, ap, ⊎_elim}
+use Rattle.std.proofs.Common.{ℕ, zero, suc, ◌+◌, ◌*◌, ◌-◌, ◌/◌, ◌%◌, ◌≤◌, ◌<◌, min, arith, eq-zero-or-pos}
+use Rattle.std.proofs.Common.{le_trans, div-lt_iff_lt-mul, mod-lt, ◌≡◌, refl, ap, ⊎_elim}
 use Rattle.base.specs.Sums.{sum_to}
 use Rattle.model.specs.Bound.{Policy, EDF, FP, System, Legal}
 use Rattle.base.proofs.SumLaws.{sum_mono, sum_part}

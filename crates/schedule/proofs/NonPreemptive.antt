@@ -3,7 +3,8 @@
 -- tasks use of it is covered by their shares and, for at most cores of them, their blocking: against the line
 -- of l.
 -- Assumes nothing.
-use Rattle.std.proofs.Common.{ℕ, zero, suc, ◌+◌, ◌*◌, ◌-◌, ◌≤◌, ◌<◌, arith, eq-zero-or-pos, le_trans, ◌≡◌, refl, ap, ◌⊎◌, inl, inr, ⊎_elim, ltb}
+use Rattle.std.proofs.Common.{ℕ, zero, suc, ◌+◌, ◌*◌, ◌-◌, ◌≤◌, ◌<◌, arith, eq-zero-or-pos, le_trans, ◌≡◌}
+use Rattle.std.proofs.Common.{refl, ap, ◌⊎◌, inl, inr, ⊎_elim, ltb}
 use Rattle.base.specs.Sums.{sum_to}
 use Rattle.model.specs.Bound.{System, W, E, share_of, block_of, B}
 use Rattle.base.proofs.OrderLaws.{le_or_lt}

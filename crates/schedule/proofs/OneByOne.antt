@@ -3,7 +3,8 @@
 -- the shares alone cover: under FP if no non-preemptive task stands lower; under EDF without slacks, since
 -- only one job of a task with a lower job executes in the window, and E(k,i) is at least min(C_i, D_k).
 -- Assumes nothing.
-use Rattle.std.proofs.Common.{ℕ, zero, suc, ◌+◌, ◌*◌, ◌≤◌, ◌<◌, min, arith, eq-or-lt_of_le, eq-zero-or-pos, ◌≡◌, sym, ap, ◌∙◌, true, ◌⊎◌, inl, inr, ⊎_elim, ltb-true}
+use Rattle.std.proofs.Common.{ℕ, zero, suc, ◌+◌, ◌*◌, ◌≤◌, ◌<◌, min, arith, eq-or-lt_of_le, eq-zero-or-pos}
+use Rattle.std.proofs.Common.{◌≡◌, sym, ap, ◌∙◌, true, ◌⊎◌, inl, inr, ⊎_elim, ltb-true}
 use Rattle.base.specs.Sums.{sum_to}
 use Rattle.base.specs.Choice.{pick}
 use Rattle.model.specs.Bound.{Policy, EDF, FP, System, W, E, share_of, B}

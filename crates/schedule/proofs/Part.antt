@@ -2,7 +2,8 @@
 -- While a job of A waits no other task executes, so the same schedule with the jobs of the others left out
 -- follows the rules; there the others need nothing, and need no bound.
 -- Assumes nothing.
-use Rattle.std.proofs.Common.{ℕ, suc, ◌+◌, ◌≤◌, ◌<◌, arith, le_refl, le_trans, le_of_eq, ◌≡◌, refl, sym, ap, ◌∙◌, Bool, true, false, not, ◌⊎◌, inl, inr, ⊎_elim}
+use Rattle.std.proofs.Common.{ℕ, suc, ◌+◌, ◌≤◌, ◌<◌, arith, le_refl, le_trans, le_of_eq, ◌≡◌, refl, sym, ap}
+use Rattle.std.proofs.Common.{◌∙◌, Bool, true, false, not, ◌⊎◌, inl, inr, ⊎_elim}
 use Rattle.base.specs.Sums.{sum_to}
 use Rattle.base.specs.Choice.{pick}
 use Rattle.model.specs.Bound.{System, bound}

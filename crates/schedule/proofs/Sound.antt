@@ -2,7 +2,7 @@
 -- rules has had all that it needs within its task's bound, hence by its deadline. Then the same for a table
 -- that passes (no slacks) and for what forcing accepts.
 -- Assumes nothing.
-use Rattle.std.proofs.Common.{ℕ, zero, suc, ◌+◌, ◌-◌, ◌≤◌, ◌<◌, arith, ◌≡◌, sym, ap, ◌∙◌, inl}
+use Rattle.std.proofs.Common.{ℕ, zero, suc, ◌+◌, ◌≤◌, ◌<◌, arith, ◌≡◌, sym, ap, ◌∙◌, inl}
 use Rattle.model.specs.Bound.{System, Legal, bound}
 use Rattle.model.specs.Demands.{Slackless, Passes}
 use Rattle.base.specs.Rows.{at}

@@ -2,7 +2,8 @@
 -- quanta in which it does not execute. There every core is busy with other tasks, and what a task uses of
 -- these quanta is at most its share, unless jobs that are lower than (k,a) execute.
 -- Assumes nothing.
-use Rattle.std.proofs.Common.{ℕ, zero, suc, ◌+◌, ◌*◌, ◌≤◌, ◌<◌, arith, eq-or-lt_of_le, le_refl, ◌≡◌, refl, sym, ap, ◌∙◌, Bool, true, false, not, ⊎_elim, ltb}
+use Rattle.std.proofs.Common.{ℕ, zero, suc, ◌+◌, ◌*◌, ◌≤◌, ◌<◌, arith, eq-or-lt_of_le, le_refl, ◌≡◌, refl}
+use Rattle.std.proofs.Common.{sym, ap, ◌∙◌, Bool, true, false, not, ⊎_elim, ltb}
 use Rattle.base.specs.Sums.{sum_to}
 use Rattle.model.specs.Bound.{EDF, FP, System, W, E, share_of}
 use Rattle.base.proofs.OrderLaws.{le_or_lt}

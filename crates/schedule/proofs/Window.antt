@@ -2,7 +2,8 @@
 -- release: at most W, of jobs due by a deadline at most E, and of quanta in which all cores are busy at least
 -- cores times as many in all. The window is added up job by job, and then the number laws of Workload apply.
 -- Assumes nothing.
-use Rattle.std.proofs.Common.{ℕ, zero, suc, ◌+◌, ◌*◌, ◌-◌, ◌≤◌, ◌<◌, arith, le_refl, le_trans, mul-le-mul_left, ◌≡◌, Bool, true, false, ltb, lt-ltb}
+use Rattle.std.proofs.Common.{ℕ, zero, suc, ◌+◌, ◌*◌, ◌-◌, ◌≤◌, ◌<◌, arith, le_refl, le_trans}
+use Rattle.std.proofs.Common.{mul-le-mul_left, ◌≡◌, Bool, true, false, ltb, lt-ltb}
 use Rattle.base.specs.Sums.{sum_to}
 use Rattle.base.specs.Choice.{pick}
 use Rattle.model.specs.Bound.{System, W, E}

@@ -1,7 +1,8 @@
 -- The climb from a q to the least that is enough, for any sum f of q that grows at least as a row says. Where
 -- the line fails with no more growth than that, it fails.
 -- Assumes nothing.
-use Rattle.std.proofs.Common.{ℕ, ◌+◌, ◌*◌, ◌-◌, ◌≤◌, ◌<◌, arith, mul-le-mul, ◌≡◌, sym, subst, List, ⊎_elim, ltb, lt-ltb, le-ltb}
+use Rattle.std.proofs.Common.{ℕ, ◌+◌, ◌*◌, ◌-◌, ◌≤◌, ◌<◌, arith, mul-le-mul, ◌≡◌, sym, subst, List, ⊎_elim}
+use Rattle.std.proofs.Common.{ltb, lt-ltb, le-ltb}
 use Rattle.base.specs.Rows.{at}
 use Rattle.base.specs.Sums.{sum_to}
 use Rattle.base.specs.Least.{least}

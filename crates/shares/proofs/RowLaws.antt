@@ -1,6 +1,7 @@
 -- The two loops of an evaluation: what each knows at its start, after one place more, and at its end.
 -- Assumes nothing.
-use Rattle.std.proofs.Common.{ℕ, ◌+◌, ◌*◌, ◌-◌, ◌≤◌, ◌<◌, min, arith, eq-or-lt_of_le, ◌≡◌, refl, sym, ap, ◌∙◌, List, ⊎_elim, length, set, length-set, get_or-set_same, get_or-set_other}
+use Rattle.std.proofs.Common.{ℕ, ◌+◌, ◌*◌, ◌-◌, ◌≤◌, ◌<◌, min, arith, eq-or-lt_of_le, ◌≡◌, refl, sym, ap}
+use Rattle.std.proofs.Common.{◌∙◌, List, ⊎_elim, length, set, length-set, get_or-set_same, get_or-set_other}
 use Rattle.base.specs.Rows.{at}
 use Rattle.base.specs.Sums.{sum_to}
 use Rattle.base.proofs.SumLaws.{sum_start, sum_step, sum_end, sum_cap}

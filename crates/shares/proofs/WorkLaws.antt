@@ -1,7 +1,8 @@
 -- The work in a window is the least of the full work and of the window without its pauses. It grows with the
 -- window, up to the full work; that of a task with C = T is the window, and grows without an end.
 -- Assumes nothing.
-use Rattle.std.proofs.Common.{ℕ, zero, suc, ◌+◌, ◌*◌, ◌-◌, ◌/◌, ◌%◌, ◌≤◌, ◌<◌, min, arith, eq-or-lt_of_le, div-mul-le_self, div-add-mod', mod-lt, mul-le-mul_right, ◌≡◌, ⊎_elim}
+use Rattle.std.proofs.Common.{ℕ, zero, suc, ◌+◌, ◌*◌, ◌-◌, ◌/◌, ◌%◌, ◌≤◌, ◌<◌, min, arith, eq-or-lt_of_le}
+use Rattle.std.proofs.Common.{div-mul-le_self, div-add-mod', mod-lt, mul-le-mul_right, ◌≡◌, ⊎_elim}
 use Rattle.model.specs.Bound.{work_in}
 use Rattle.model.proofs.TermLaws.{div_mono}
 use Rattle.window.proofs.WindowLaws.{work_least}

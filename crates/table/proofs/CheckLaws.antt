@@ -1,6 +1,7 @@
 -- The loop of the checks: what it knows at task i, and what is answered where it ends.
 -- Assumes nothing.
-use Rattle.std.proofs.Common.{ℕ, zero, suc, ◌+◌, ◌≤◌, ◌<◌, arith, ◌≡◌, refl, ap, ◌∙◌, Bool, true, false, not, eqb, eq-eqb, ne_eqb, eqb-true}
+use Rattle.std.proofs.Common.{ℕ, zero, suc, ◌+◌, ◌≤◌, ◌<◌, arith, ◌≡◌, refl, ap, ◌∙◌, Bool, true, false}
+use Rattle.std.proofs.Common.{not, eqb, eq-eqb, ne_eqb, eqb-true}
 use Rattle.base.specs.Choice.{pick}
 use Rattle.base.proofs.FirstLaws.{NoneTo, find_start, find_step, find_here, find_none}
 use Rattle.table.specs.declared.Table.{Table}

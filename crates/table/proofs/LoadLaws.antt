@@ -1,6 +1,8 @@
 -- The loads of a legal table: each is at most 1000, none is below the exact load, nor is their total; and the
 -- loop that adds them up. Assumes nothing.
-use Rattle.std.proofs.Common.{ℕ, zero, suc, ◌+◌, ◌*◌, ◌-◌, ◌/◌, ◌%◌, ◌≤◌, ◌<◌, arith, div-lt_iff_lt-mul, div-add-mod', div-mul-le_self, mod-lt, mul-le-mul_right, mul_assoc, mul_comm, add-mul, ◌≡◌, refl, ap, ◌∙◌, replicate}
+use Rattle.std.proofs.Common.{ℕ, zero, suc, ◌+◌, ◌*◌, ◌-◌, ◌/◌, ◌%◌, ◌≤◌, ◌<◌, arith, div-lt_iff_lt-mul}
+use Rattle.std.proofs.Common.{div-add-mod', div-mul-le_self, mod-lt, mul-le-mul_right, mul_assoc, mul_comm}
+use Rattle.std.proofs.Common.{add-mul, ◌≡◌, refl, ap, ◌∙◌, replicate}
 use Rattle.base.specs.Sums.{sum_to}
 use Rattle.base.proofs.SumLaws.{sum_cap, sum_start, sum_step, sum_end}
 use Rattle.table.specs.Table.{LegalTable}

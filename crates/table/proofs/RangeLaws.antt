@@ -1,6 +1,7 @@
 -- The faults 5 to 11 and 17 of a table's own numbers and of a task are given exactly when documents 01 and 02
 -- say so. Assumes nothing.
-use Rattle.std.proofs.Common.{ℕ, ◌<◌, arith, ◌≡◌, refl, Bool, true, false, ◌⊎◌, inl, inr, ⊎_elim, ltb, lt-ltb, le-ltb, ltb-true, ltb-false}
+use Rattle.std.proofs.Common.{ℕ, ◌<◌, arith, ◌≡◌, refl, Bool, true, false, ◌⊎◌, inl, inr, ⊎_elim, ltb}
+use Rattle.std.proofs.Common.{lt-ltb, le-ltb, ltb-true, ltb-false}
 use Rattle.base.specs.Choice.{pick}
 use Rattle.table.specs.declared.Task.{Task}
 use Rattle.table.specs.declared.Table.{Table}

@@ -1,7 +1,8 @@
 -- A division by t is a multiplication by k / t + 1 and a division by k, for a dividend x with x × t below k:
 -- the product is at least x / t whole k's, and does not reach the next one.
 -- Assumes nothing.
-use Rattle.std.proofs.Common.{ℕ, ◌+◌, ◌*◌, ◌-◌, ◌/◌, ◌%◌, ◌≤◌, ◌<◌, arith, div-add-mod', mod-lt, mul-le-mul_left, mul-le-mul_right, ◌≡◌, ap, sym, subst}
+use Rattle.std.proofs.Common.{ℕ, ◌+◌, ◌*◌, ◌-◌, ◌/◌, ◌%◌, ◌≤◌, ◌<◌, arith, div-add-mod', mod-lt}
+use Rattle.std.proofs.Common.{mul-le-mul_left, mul-le-mul_right, ◌≡◌, ap, sym, subst}
 use Rattle.std.proofs.Math.Nat.{div-eq_of_lt-le}
 use Rattle.std.proofs.Math.Nat.{lt_of_mul-lt-mul_left}
 

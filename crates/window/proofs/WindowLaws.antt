@@ -1,7 +1,8 @@
 -- The whole periods of a window, and the work in it as the least of two: that of the jobs begun, and the
 -- window without the pauses of the whole periods.
 -- Assumes nothing.
-use Rattle.std.proofs.Common.{ℕ, ◌+◌, ◌*◌, ◌-◌, ◌/◌, ◌≤◌, min, arith, div-le_self, div-mul-le_self, mul-le-mul, ◌≡◌, ap, ◌∙◌}
+use Rattle.std.proofs.Common.{ℕ, ◌+◌, ◌*◌, ◌-◌, ◌/◌, ◌≤◌, min, arith, div-le_self, div-mul-le_self}
+use Rattle.std.proofs.Common.{mul-le-mul, ◌≡◌, ap, ◌∙◌}
 use Rattle.model.specs.Bound.{work_in}
 use Rattle.window.specs.Window.{inverse_of, whole_in, Windowed}
 use Rattle.window.proofs.InverseLaws.{by_inverse}

@@ -1,7 +1,7 @@
 -- `fewest::legal_fewest` meets its contract. The loop's invariant: the fewest is above `low` and at most
 -- `high`. Assumes nothing.
 use Rattle.std.proofs.Common.{◌-◌, arith, rules}
-use borrow.Author.Tests.{not_true, not-false}
+use borrow.Author.Tests.{not-true, not-false}
 use Rattle.fewest.proofs.HalvingLaws.{Between, halving_start, halving_down, halving_up, halving_end}
 use Rattle.fewest.proofs.HalvingLaws.{halving_none}
 use Rattle.fewest.proofs.legal_fewest.Statement.{statement}
@@ -19,7 +19,7 @@ force-on-requires c κs = (c.requires, (omega arith, omega arith))
 returns : tie.Need-returns invariant-loop decreases-loop
 returns c =
     halving_none c.before.before.before.requires c.before.before.force-on.ensures
-    c.before.says-yes.ensures (not_true _ c.if1.true)
+    c.before.says-yes.ensures (not-true _ c.if1.true)
 
 loop-holds : tie.Need-loop-init invariant-loop decreases-loop
 loop-holds c =

@@ -1,7 +1,7 @@
 -- `frame_reader::frame_fault` meets its contract: each return is one of the faults, in document 01's words.
 -- Assumes nothing.
 use Rattle.std.proofs.Common.{arith, sym, ap, ◌∙◌, ℕ, ◌%◌, rules}
-use borrow.Author.Tests.{not_true, not-false}
+use borrow.Author.Tests.{not-true, not-false}
 use Rattle.frames.specs.Faults.{WholeLine, short, no_end, no_sum, no_kind}
 use Rattle.frames.proofs.DigitLaws.{digits_right}
 use Rattle.frames.proofs.FrameLaws.{digits_fault, wrong_frame, right_frame}
@@ -23,7 +23,7 @@ returns c = sym (wrong_frame (short (omega arith)))
 
 returns-2 : tie.Need-returns-2
 returns-2 c =
-    sym (digits_fault _ _ _ (omega arith) (sym c.before.all_digits.ensures ∙ not_true _ c.if2.true))
+    sym (digits_fault _ _ _ (omega arith) (sym c.before.all_digits.ensures ∙ not-true _ c.if2.true))
 
 returns-3 : tie.Need-returns-3
 returns-3 c = sym (wrong_frame (no_end (omega arith) c.if3.true))

@@ -1,4 +1,4 @@
-use Rattle.std.proofs.Common.{◌-◌, arith, sym, ◌∙◌}
+use Rattle.std.proofs.Common.{arith, sym, ◌∙◌}
 use Rattle.table.proofs.CheckLaws.{head_refused, checking_start, checking_step, checking_fault, checking_end}
 use Rattle.table.proofs.check_table.Goals as goal
 
