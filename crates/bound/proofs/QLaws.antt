@@ -2,7 +2,9 @@
 -- m × q; over any legal system. Without slack that is the sum of the shares under the caps, over any rows
 -- that hold the system's numbers.
 -- Assumes nothing.
-use Rattle.std.proofs.Common.{ℕ, zero, suc, ◌+◌, ◌*◌, ◌-◌, ◌/◌, ◌≤◌, ◌<◌, min, arith, div-lt_iff_lt-mul, le-div_iff_mul-le, ◌≡◌, refl, sym, ap, ◌∙◌, Bool, true, false, List, ltb, leb, ltb-true, ltb-false, le-leb}
+use Rattle.std.proofs.Common.{ℕ, zero, suc, ◌+◌, ◌*◌, ◌-◌, ◌/◌, ◌≤◌, ◌<◌, min, arith, div-lt_iff_lt-mul}
+use Rattle.std.proofs.Common.{le-div_iff_mul-le, ◌≡◌, refl, sym, ap, ◌∙◌, Bool, true, false, List, ltb, leb}
+use Rattle.std.proofs.Common.{ltb-true, ltb-false, le-leb}
 use borrow.Author.Tests.{lt-leb}
 use Rattle.base.specs.Choice.{pick}
 use Rattle.base.specs.Rows.{at}

@@ -1,6 +1,7 @@
 -- The search for task k over the rows: what it may ask for, and that its answer is the bound.
 -- Assumes nothing.
-use Rattle.std.proofs.Common.{ℕ, zero, suc, ◌+◌, ◌-◌, ◌≤◌, ◌<◌, arith, ◌≡◌, refl, sym, ap, ap₂, ◌∙◌, List, ltb-false}
+use Rattle.std.proofs.Common.{ℕ, zero, suc, ◌+◌, ◌-◌, ◌≤◌, ◌<◌, arith, ◌≡◌, refl, sym, ap, ap₂, ◌∙◌, List}
+use Rattle.std.proofs.Common.{ltb-false}
 use Rattle.base.specs.Rows.{at}
 use Rattle.model.specs.Bound.{System, by_flag, plus, bound}
 use Rattle.model.proofs.BoundLaws.{bound_range}

@@ -1,7 +1,7 @@
 -- The caps that are made are small under any slacks; without slack they are the caps of task k, over any
 -- legal system, and for the system that rows hold.
 -- Assumes nothing.
-use Rattle.std.proofs.Common.{ℕ, zero, suc, ◌+◌, ◌-◌, ◌≤◌, ◌<◌, min, arith, eq-or-lt_of_le, ◌≡◌, refl, ap}
+use Rattle.std.proofs.Common.{ℕ, zero, suc, ◌+◌, ◌≤◌, ◌<◌, min, arith, eq-or-lt_of_le, ◌≡◌, refl, ap}
 use Rattle.std.proofs.Common.{◌∙◌, Bool, true, false, List, ⊎_elim, eqb}
 use Rattle.base.specs.Choice.{pick}
 use Rattle.base.specs.Rows.{at}

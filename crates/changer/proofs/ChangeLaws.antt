@@ -1,6 +1,7 @@
 -- The table with the flags of the records, turn by turn; and the stages of the answer, over plain values.
 -- Assumes nothing.
-use Rattle.std.proofs.Common.{ℕ, zero, suc, ◌+◌, ◌≤◌, ◌<◌, arith, ◌≡◌, refl, sym, ap, ◌∙◌, List, set, replicate}
+use Rattle.std.proofs.Common.{ℕ, zero, suc, ◌+◌, ◌≤◌, ◌<◌, arith, ◌≡◌, refl, sym, ap, ◌∙◌, List, set}
+use Rattle.std.proofs.Common.{replicate}
 use Rattle.base.specs.Choice.{or_else}
 use Rattle.base.specs.Rows.{at, row}
 use Rattle.base.proofs.RowLaws.{row_at, row_same, fill_start, fill_step, fill_end}
@@ -19,7 +20,8 @@ use Rattle.planner.specs.declared.Answer.{Answer}
 use Rattle.planner.specs.declared.Answer.TheVariants.{Given, Refused as Stopped}
 use Rattle.planner.specs.declared.Job.TheVariants.{Force}
 use Rattle.planner.specs.Answers.{values_of, no_record, record_at, records_of, entry, changes}
-use Rattle.planner.specs.Done.{finish, refuse, sent, final, ended, failing, force_done, legal_done, plan_done}
+use Rattle.planner.specs.Done.{finish, refuse, sent, final, ended, failing, force_done, legal_done}
+use Rattle.planner.specs.Done.{plan_done}
 use Rattle.planner.proofs.StageLaws.{room_enough, plan_fine, plan_faulty}
 use Rattle.writer.specs.declared.Written.{Written}
 use Rattle.writer.specs.Written.{WroteAs}

@@ -1,6 +1,7 @@
 -- The table as changed: the same system, the flags where forcing ended; so its test gives the bounds of the
 -- last pass, and forcing it ends at once. Assumes nothing.
-use Rattle.std.proofs.Common.{ℕ, zero, suc, ◌≤◌, ◌<◌, arith, ◌≡◌, refl, sym, ap, ap₂, subst, ◌∙◌, Bool, true, false, List, leb, ltb, eqb, ltb-true, ltb-false, eq-eqb}
+use Rattle.std.proofs.Common.{ℕ, zero, suc, ◌≤◌, ◌<◌, arith, ◌≡◌, refl, sym, ap, ap₂, subst, ◌∙◌, Bool}
+use Rattle.std.proofs.Common.{true, false, List, leb, ltb, eqb, ltb-true, ltb-false, eq-eqb}
 use Rattle.std.proofs.Math.Path.{fun_ext}
 use Rattle.std.proofs.Math.ListN.{get_or-eq_default}
 use Rattle.base.specs.Choice.{or_else}
@@ -15,7 +16,8 @@ use Rattle.model.proofs.DemandLaws.{forced_bounds, forced_falls}
 use Rattle.model.proofs.LowestLaws.{lowest_none_lem, none_lowest}
 use Rattle.table.specs.declared.Task.{Task}
 use Rattle.table.specs.declared.Table.{Table}
-use Rattle.table.specs.Table.{no_task, task_at, level_at, policy_of, system_of, flags_of, LegalTask, LegalTable}
+use Rattle.table.specs.Table.{no_task, task_at, level_at, policy_of, system_of, flags_of, LegalTask}
+use Rattle.table.specs.Table.{LegalTable}
 use Rattle.table.specs.Checks.{refusal}
 use Rattle.table.proofs.TableLaws.{flags_at}
 use Rattle.flags.proofs.FlagLaws.{same_unchanged}

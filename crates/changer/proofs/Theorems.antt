@@ -15,7 +15,8 @@
 --   what is written stays upper case                                      written_raised
 --
 -- The last two are of Wish 6. The records are those that forcing the sent text gives. Assumes nothing.
-use Rattle.std.proofs.Common.{ℕ, ◌+◌, ◌≤◌, arith, ◌≡◌, refl, sym, ap, ap₂, subst, ◌∙◌, ◌↔◌, true, List, length}
+use Rattle.std.proofs.Common.{ℕ, ◌+◌, ◌≤◌, arith, ◌≡◌, refl, sym, ap, ap₂, subst, ◌∙◌, ◌↔◌, true, List}
+use Rattle.std.proofs.Common.{length}
 use Rattle.base.specs.Rows.{at}
 use Rattle.base.proofs.RowLaws.{row_at, row_same}
 use Rattle.table.specs.declared.Table.{Table}

@@ -2,7 +2,7 @@
 -- length between them.
 -- Assumes nothing.
 use Rattle.std.proofs.Common.{ℕ, zero, suc, ◌+◌, ◌*◌, ◌≤◌, ◌<◌, min, arith, mul-le-mul_left}
-use Rattle.std.proofs.Common.{mul-le-mul_right, eq-zero-or-pos, ◌≡◌, subst, ◌⊎◌, ⊎_elim}
+use Rattle.std.proofs.Common.{mul-le-mul_right, eq-zero-or-pos, ◌≡◌, subst, ⊎_elim}
 use Rattle.std.proofs.Math.Nat.{min-le_left, le_of_mul-le-mul_left}
 use Rattle.base.specs.Sums.{sum_to}
 use Rattle.base.proofs.OrderLaws.{le_or_lt}

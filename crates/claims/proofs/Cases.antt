@@ -1,7 +1,8 @@
 -- The marked cases of document 01, as one statement over one list of them, and the wrong ones, as another:
 -- antt computes every answer.
 -- Assumes nothing.
-use Rattle.std.proofs.Common.{ℕ, zero, suc, ◌<◌, arith, ◌≡◌, refl, Bool, true, false, not, ◌&&◌, List, [], ◌∷◌, T, length}
+use Rattle.std.proofs.Common.{ℕ, zero, suc, ◌<◌, arith, ◌≡◌, refl, Bool, true, false, not, ◌&&◌, List, []}
+use Rattle.std.proofs.Common.{◌∷◌, T, length}
 use Rattle.base.specs.Sums.{sum_to, top_to}
 use Rattle.base.specs.Least.{least, first_from}
 use Rattle.model.specs.Bound.{work_in, W, E, share, block, from, cap, share_of, block_of}

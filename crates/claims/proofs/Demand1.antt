@@ -1,7 +1,9 @@
 -- The work behind demand 1: every call has exactly one answer, by what it sends or by its first fault; a plan
 -- has the same in either case of its letters.
 -- Assumes nothing.
-use Rattle.std.proofs.Common.{ℕ, ◌≤◌, ◌<◌, min, arith, ◌≡◌, refl, sym, ap, ap₂, subst, ◌∙◌, ◌⊎◌, ◌↔◌, ⊎_elim, List, length, take, replicate, length-take-le, get_or-take, ext_get_or}
+use Rattle.std.proofs.Common.{ℕ, ◌≤◌, ◌<◌, min, arith, ◌≡◌, refl, sym, ap, ap₂, subst, ◌∙◌, ◌⊎◌, ◌↔◌}
+use Rattle.std.proofs.Common.{⊎_elim, List, length, take, replicate, length-take-le, get_or-take}
+use Rattle.std.proofs.Common.{ext_get_or}
 use Rattle.base.proofs.OrderLaws.{le_or_lt}
 use Rattle.table.specs.declared.Task.{Task}
 use Rattle.table.specs.declared.Table.{Table}

@@ -1,6 +1,7 @@
 -- The work behind demand 2: the bounds, marks and counts of a test and of forcing that accepts.
 -- Assumes nothing.
-use Rattle.std.proofs.Common.{ℕ, ◌-◌, ◌+◌, ◌<◌, arith, le_refl, ◌≡◌, refl, sym, ap, ◌∙◌, true, false, ◌⊎◌, inl, inr, List, length}
+use Rattle.std.proofs.Common.{ℕ, ◌-◌, ◌+◌, ◌<◌, arith, le_refl, ◌≡◌, refl, sym, ap, ◌∙◌, true, false, ◌⊎◌}
+use Rattle.std.proofs.Common.{inl, inr, List, length}
 use Rattle.base.specs.Choice.{pick}
 use Rattle.base.proofs.SumLaws.{sum_same}
 use Rattle.model.specs.Bound.{System, by_flag, plus, bound}

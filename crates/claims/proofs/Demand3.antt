@@ -1,6 +1,7 @@
 -- The work behind demand 3: sequences of steps end, in the flags that forcing gives out; what is given out is
 -- least, and refusal 14 is final. Assumes nothing.
-use Rattle.std.proofs.Common.{ℕ, zero, suc, ◌≤◌, ◌<◌, arith, eq-zero-or-pos, ◌≡◌, refl, sym, ap, ◌∙◌, ◌⊎◌, inl, inr, ⊎_elim, ◌↔◌, true, List, eqb, eq-eqb, ne_eqb}
+use Rattle.std.proofs.Common.{ℕ, zero, suc, ◌≤◌, ◌<◌, arith, eq-zero-or-pos, ◌≡◌, refl, sym, ap, ◌∙◌, ◌⊎◌}
+use Rattle.std.proofs.Common.{inl, inr, ⊎_elim, ◌↔◌, true, List, eqb, eq-eqb, ne_eqb}
 use Rattle.base.specs.Choice.{pick}
 use Rattle.model.specs.Bound.{System, bound}
 use Rattle.model.specs.Demands.{Passes, Settled, Holds, Step, Steps, step_count}

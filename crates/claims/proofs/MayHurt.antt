@@ -1,7 +1,8 @@
 -- What may hurt, over calls: see specs/NeverHurts.antt for what is refuted. A legal table is sent as a list
 -- of its tasks, so that a claim over calls would be one over tables, and `easier` has tables that refute it.
 -- Assumes nothing.
-use Rattle.std.proofs.Common.{◌≤◌, ◌<◌, arith, refl, sym, ap, ◌∙◌, true, ⊎_elim, List, length, take, replicate}
+use Rattle.std.proofs.Common.{◌≤◌, ◌<◌, arith, refl, sym, ap, ◌∙◌, true, ⊎_elim, List, length, take}
+use Rattle.std.proofs.Common.{replicate}
 use Rattle.std.proofs.Math.ListN.{get_or-eq_default}
 use Rattle.base.specs.Sums.{sum_to, top_to}
 use Rattle.base.specs.Least.{least, first_from}

@@ -1,6 +1,7 @@
 -- What a yes means, from the planner's promise and the theorem of the crate `schedule`: the bounds are kept
 -- in every schedule by the rules, and such schedules exist for exactly what may be asked. Assumes nothing.
-use Rattle.std.proofs.Common.{ℕ, zero, suc, ◌+◌, ◌≤◌, ◌<◌, arith, le_of_eq, le_antisymm, ◌≡◌, refl, sym, ap, ◌∙◌, Bool, true, false, ◌↔◌, inr, List, eqb, eqb-true, leb-true, le-leb}
+use Rattle.std.proofs.Common.{ℕ, zero, suc, ◌+◌, ◌≤◌, ◌<◌, arith, le_of_eq, le_antisymm, ◌≡◌, refl, sym, ap}
+use Rattle.std.proofs.Common.{◌∙◌, Bool, true, false, ◌↔◌, inr, List, eqb, eqb-true, leb-true, le-leb}
 use borrow.Author.Tests.{eqb-false}
 use Rattle.model.specs.Bound.{System, bound}
 use Rattle.model.specs.Demands.{Passes}

@@ -2,11 +2,11 @@
 -- `easier` says of its table: yes exactly if forcing accepts it, the marks in the records are the forced
 -- tasks, and the bounds there are those of the last test.
 -- Assumes nothing.
-use Rattle.std.proofs.Common.{ℕ, zero, suc, ◌-◌, ◌≤◌, ◌<◌, arith, le_of_eq, le_refl, ◌≡◌, refl, sym, ap, subst, ◌∙◌, true, inr, List, length}
+use Rattle.std.proofs.Common.{ℕ, zero, suc, ◌-◌, ◌≤◌, ◌<◌, arith, le_of_eq, le_refl, ◌≡◌, refl, sym, ap}
+use Rattle.std.proofs.Common.{subst, ◌∙◌, true, inr, List, length}
 use Rattle.base.specs.Choice.{pick}
 use Rattle.base.specs.Rows.{at}
 use Rattle.base.proofs.SumLaws.{sum_same}
-use Rattle.model.specs.Bound.{bound}
 use Rattle.model.specs.Demands.{Passes}
 use Rattle.model.proofs.BoundLaws.{bound_same}
 use Rattle.model.proofs.DemandLaws.{forced_falls, accepted_passes}

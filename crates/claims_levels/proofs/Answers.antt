@@ -22,7 +22,8 @@ use Rattle.planner.specs.declared.Job.{Job}
 use Rattle.planner.specs.declared.Job.TheVariants.{Test, Force}
 use Rattle.planner.specs.declared.Record.{Record}
 use Rattle.planner.specs.Answers.{given, changes, records_of}
-use Rattle.planner.specs.Done.{finish, refuse, tested_by, test_done, forced_by, force_done, legal_done, roomed}
+use Rattle.planner.specs.Done.{finish, refuse, tested_by, test_done, forced_by, force_done, legal_done}
+use Rattle.planner.specs.Done.{roomed}
 use Rattle.planner.specs.Done.{room_done, list_done, loaded}
 use Rattle.planner.specs.Calls.{Call, Allows, Answered, Sends, done_of}
 use Rattle.planner.proofs.CallLaws.{sends_legal, sends_done}

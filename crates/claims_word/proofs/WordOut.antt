@@ -1,7 +1,8 @@
 -- The work behind the front page of Wish 7: what is held is the word that ties to it, for the flags as sent
 -- and as forcing leaves them; and the word of an answer ties to the flags in the caller's list.
 -- Assumes nothing.
-use Rattle.std.proofs.Common.{ℕ, ◌≤◌, ◌<◌, arith, ◌≡◌, sym, ap, ap₂, subst, ◌∙◌, Bool, ◌↔◌, ⊎_elim, List, length}
+use Rattle.std.proofs.Common.{ℕ, ◌≤◌, ◌<◌, arith, ◌≡◌, sym, ap, ap₂, subst, ◌∙◌, Bool, ◌↔◌, ⊎_elim, List}
+use Rattle.std.proofs.Common.{length}
 use Rattle.base.specs.Rows.{at}
 use Rattle.model.specs.Forcing.{Final}
 use Rattle.model.specs.Demands.{Flags as FlagsOf}

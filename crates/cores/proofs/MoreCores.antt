@@ -3,7 +3,8 @@
 -- ends with fewer cores, nothing is left to be forced with more, and it ends there with no task forced
 -- beyond those; so where it accepts it accepts with every larger number at all.
 -- Assumes nothing.
-use Rattle.std.proofs.Common.{ℕ, zero, suc, ◌≤◌, ◌<◌, arith, le_refl, le_trans, eq-or-lt_of_le, ◌≡◌, ⊎_elim, List}
+use Rattle.std.proofs.Common.{ℕ, zero, suc, ◌≤◌, ◌<◌, arith, le_refl, le_trans, eq-or-lt_of_le, ◌≡◌, ⊎_elim}
+use Rattle.std.proofs.Common.{List}
 use Rattle.base.specs.Least.{NoWorse}
 use Rattle.base.specs.Rows.{at}
 use Rattle.model.specs.Bound.{System, bound}

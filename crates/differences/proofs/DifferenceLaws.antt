@@ -1,7 +1,8 @@
 -- The rows are those of task k's differences: where there are none all is 0, and else what rises in a place
 -- is min(C - 1, q) - max(0, D_k - S). Of k itself nothing rises.
 -- Assumes nothing.
-use Rattle.std.proofs.Common.{ℕ, zero, suc, ◌+◌, ◌-◌, ◌≤◌, ◌<◌, min, arith, ◌≡◌, refl, sym, ap, ◌∙◌, Bool, true, false, List, replicate, eqb, eqb-true}
+use Rattle.std.proofs.Common.{ℕ, zero, suc, ◌+◌, ◌-◌, ◌≤◌, ◌<◌, min, arith, ◌≡◌, refl, sym, ap, ◌∙◌, Bool}
+use Rattle.std.proofs.Common.{true, false, List, replicate, eqb, eqb-true}
 use Rattle.std.proofs.Math.ListN.{get_or-replicate}
 use Rattle.base.specs.Choice.{pick}
 use Rattle.base.specs.Rows.{at}

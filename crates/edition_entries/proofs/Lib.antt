@@ -1,4 +1,1 @@
-pub mod Passed
-pub mod Loads
-pub mod Listed
 pub mod Unique

@@ -1,6 +1,7 @@
 -- Each answer of edition 2 is given exactly when document 02 says so, with its round count, of a plan and of
 -- a list alike. Assumes nothing.
-use Rattle.std.proofs.Common.{ℕ, ◌≤◌, ◌≡◌, refl, sym, subst, ◌∙◌, Bool, true, false, ◌↔◌, ⊎_elim, ltb, ltb-true, ltb-false}
+use Rattle.std.proofs.Common.{ℕ, ◌≤◌, ◌≡◌, refl, sym, subst, ◌∙◌, Bool, true, false, ◌↔◌, ⊎_elim, ltb}
+use Rattle.std.proofs.Common.{ltb-true, ltb-false}
 use Rattle.table.specs.declared.Table.{Table}
 use Rattle.table.specs.Checks.{refusal}
 use Rattle.table.proofs.TableLaws.{legal_fine, fault_checked}

@@ -1,6 +1,2 @@
-pub mod Kit
-pub mod Walk
-pub mod Putting
-pub mod Passed
-pub mod Loading
+pub mod FillLaws
 pub mod Unique

@@ -17,7 +17,8 @@ use writer::Written;
 // What `put_done` asks of an answer.
 fn nth(d: Done, i: usize) -> Record
     requires { i < 32 }
-    ensures { result ≡ record_at d.recs i }
+    ensures value { result ≡ record_at d.recs i }
+    ensures long { length d.recs ≡ 32 }
 {
     d.recs[i]
 }
@@ -81,7 +82,8 @@ pub fn load_tasks(tasks: &[Task]) -> [Task; 32]
     let mut i: usize = 0;
     while i < n {
         let task = tasks[i];
-        all = put_task(all, i, task);
+        let next = put_task(all, i, task);
+        all = next;
         i += 1;
     }
     all

@@ -1,6 +1,7 @@
 -- The definition says what document 02 says: the least of 1 to 16 is the fewest, in words, and 0 says that
 -- there is none; and every call is answered in one of the ways. Assumes nothing.
-use Rattle.std.proofs.Common.{ℕ, zero, suc, ◌≤◌, ◌<◌, arith, ◌≡◌, refl, sym, subst, ◌∙◌, Bool, true, false, ⊎_elim, ltb, ltb-true, ltb-false}
+use Rattle.std.proofs.Common.{ℕ, zero, suc, ◌≤◌, ◌<◌, arith, ◌≡◌, refl, sym, subst, ◌∙◌, Bool, true, false}
+use Rattle.std.proofs.Common.{⊎_elim, ltb, ltb-true, ltb-false}
 use Rattle.base.specs.Choice.{pick, or_else}
 use Rattle.base.proofs.FirstLaws.{First, is_first, none_first}
 use Rattle.table.specs.declared.Table.{Table}

@@ -1,6 +1,7 @@
 -- What was found for a legal table: a yes comes with 1 to 16 cores, and its listing with the line above it
 -- fits; so does a refusal. Assumes nothing.
-use Rattle.std.proofs.Common.{ℕ, ◌+◌, ◌≤◌, arith, le_refl, ◌≡◌, sym, ap, subst, ◌∙◌, true, false, List, ◌++◌, append_assoc, append-nil, length, length-append}
+use Rattle.std.proofs.Common.{ℕ, ◌+◌, ◌≤◌, arith, le_refl, ◌≡◌, sym, ap, subst, ◌∙◌, true, false, List}
+use Rattle.std.proofs.Common.{◌++◌, append_assoc, append-nil, length, length-append}
 use Rattle.table.specs.Table.{LegalTable}
 use Rattle.table.specs.declared.Table.{Table}
 use Rattle.table.specs.declared.Refusal.{Refusal}

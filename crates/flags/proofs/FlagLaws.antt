@@ -3,7 +3,7 @@
 -- held is one pass over what it was made from.
 -- Assumes nothing.
 use Rattle.std.proofs.Common.{ℕ, zero, suc, ◌+◌, ◌-◌, ◌≤◌, ◌<◌, min, arith, ◌≡◌, refl, sym, ap, ap₂, ◌∙◌}
-use Rattle.std.proofs.Common.{Bool, true, false, ◌⊎◌, ⊎_elim, eqb, eq-eqb, ne_eqb, eqb-true}
+use Rattle.std.proofs.Common.{Bool, true, false, ⊎_elim, eqb, eq-eqb, ne_eqb, eqb-true}
 use borrow.Author.Tests.{eqb-false}
 use Rattle.base.specs.Choice.{pick}
 use Rattle.base.specs.Sums.{sum_to}

@@ -1,7 +1,7 @@
 -- Words by place: `word_of f n` has a 1 just where f is 0 and zeros from bit n up, and is the only such word.
 -- Assumes nothing.
 use Rattle.std.proofs.Common.{ℕ, zero, suc, ◌-◌, ◌^◌, ◌≤◌, ◌<◌, arith, le_refl, lt_of_lt_of_le, ◌≡◌, refl}
-use Rattle.std.proofs.Common.{sym, ap, ◌∙◌, ◌⊎◌, ⊎_elim, pow_mono}
+use Rattle.std.proofs.Common.{sym, ap, ◌∙◌, ⊎_elim, pow_mono}
 use Rattle.base.proofs.OrderLaws.{le_or_lt}
 use Rattle.flags.specs.Words.{bit, clear, is_zero, word_of}
 use Rattle.flags.proofs.BitLaws.{bit_small, bit_past, same_word, bits_small, bits_at}

@@ -1,6 +1,7 @@
 -- Records as numbers: one record is three stores, and records that are written one after the other make the
 -- flat answer. Assumes nothing.
-use Rattle.std.proofs.Common.{ℕ, ◌+◌, ◌*◌, ◌/◌, ◌≤◌, ◌<◌, arith, add-one, ◌≡◌, refl, ap, ◌∙◌, List, [], ◌∷◌, ◌++◌, length, take, drop, set, take-suc}
+use Rattle.std.proofs.Common.{ℕ, ◌+◌, ◌*◌, ◌/◌, ◌≤◌, ◌<◌, arith, add-one, ◌≡◌, refl, ap, ◌∙◌, List, [], ◌∷◌}
+use Rattle.std.proofs.Common.{◌++◌, length, take, drop, set, take-suc}
 use Rattle.buffer.specs.Put.{Put}
 use Rattle.buffer.proofs.PutLaws.{put_none, put_one, put_then, put_start, put_length}
 use Rattle.planner.specs.declared.Record.{Record}

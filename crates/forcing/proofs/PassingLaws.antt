@@ -2,7 +2,8 @@
 -- list that is held, so that it ends where forcing does. Of each preemptive task it knows a q below which
 -- none is enough; under FP, of those that see no change, the bound itself.
 -- Assumes nothing.
-use Rattle.std.proofs.Common.{ℕ, zero, suc, ◌+◌, ◌-◌, ◌≤◌, ◌<◌, arith, le_refl, ◌≡◌, refl, sym, ap, ap₂, ◌∙◌, true, List, ◌⊎◌, inl, inr, ⊎_elim, eqb}
+use Rattle.std.proofs.Common.{ℕ, zero, suc, ◌+◌, ◌-◌, ◌≤◌, ◌<◌, arith, le_refl, ◌≡◌, refl, sym, ap, ap₂}
+use Rattle.std.proofs.Common.{◌∙◌, true, List, ◌⊎◌, inl, inr, ⊎_elim, eqb}
 use Rattle.base.specs.Sums.{sum_to}
 use Rattle.base.specs.Least.{first_of}
 use Rattle.base.specs.Rows.{at}

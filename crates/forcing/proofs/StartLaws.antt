@@ -1,6 +1,7 @@
 -- What the loop of passes knows before each pass, and that it knows it at the start.
 -- Assumes nothing.
-use Rattle.std.proofs.Common.{ℕ, ◌≤◌, ◌<◌, arith, ◌≡◌, sym, ap, ◌∙◌, subst, true, List, length, replicate, le-leb}
+use Rattle.std.proofs.Common.{ℕ, ◌≤◌, ◌<◌, arith, ◌≡◌, sym, ap, ◌∙◌, subst, true, List, length, replicate}
+use Rattle.std.proofs.Common.{le-leb}
 use Rattle.std.proofs.Math.ListN.{length-replicate, get_or-replicate}
 use Rattle.base.specs.Rows.{at}
 use Rattle.base.proofs.RowLaws.{list_at}

@@ -1,7 +1,7 @@
 -- The digit rule, in either case of a letter; the digits of a text: the test of all of them, what bytes and
 -- sums of digits are at most, and what stays of a text that is raised.
 -- Assumes nothing.
-use Rattle.std.proofs.Common.{ℕ, zero, suc, ◌+◌, ◌*◌, ◌-◌, ◌≤◌, ◌<◌, arith, ◌≡◌, refl, sym, ap, subst, ◌∙◌}
+use Rattle.std.proofs.Common.{ℕ, zero, suc, ◌+◌, ◌*◌, ◌≤◌, ◌<◌, arith, ◌≡◌, refl, sym, ap, subst, ◌∙◌}
 use Rattle.std.proofs.Common.{Bool, true, false, not, ⊎_elim, List, [], ◌∷◌, ltb, leb, eqb, length, get_or}
 use Rattle.std.proofs.Common.{drop, get_or-drop, ltb-true, ltb-false, le-leb, leb-false, eq-eqb, ne_eqb}
 use Rattle.std.proofs.Common.{eqb-true}

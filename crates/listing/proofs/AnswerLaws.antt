@@ -18,7 +18,8 @@ use Rattle.planner.specs.declared.Record.{Record}
 use Rattle.planner.specs.declared.Done.{Done}
 use Rattle.planner.specs.declared.Job.TheVariants.{Force}
 use Rattle.planner.specs.Answers.{given, no_record, records_of, changes}
-use Rattle.planner.specs.Done.{finish, refuse, sent, final, ended, changed_by, failing, forced_by, force_done}
+use Rattle.planner.specs.Done.{finish, refuse, sent, final, ended, changed_by, failing, forced_by}
+use Rattle.planner.specs.Done.{force_done}
 use Rattle.planner.specs.Done.{legal_done}
 use Rattle.planner.proofs.LegalLaws.{ended_at}
 use Rattle.planner.proofs.StageLaws.{timed, flagged}

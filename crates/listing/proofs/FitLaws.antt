@@ -1,6 +1,7 @@
 -- Every listing fits in 2,048 bytes: 27 for line one, 58 for each of at most 32 tasks, 37 for the last line.
 -- Each number is short by its range; the lines' lengths are those of their words. Assumes nothing.
-use Rattle.std.proofs.Common.{ℕ, zero, suc, ◌+◌, ◌*◌, ◌≤◌, ◌<◌, arith, ◌≡◌, refl, Bool, true, false, List, length, length-append}
+use Rattle.std.proofs.Common.{ℕ, zero, suc, ◌+◌, ◌*◌, ◌≤◌, ◌<◌, arith, ◌≡◌, refl, Bool, true, false, List}
+use Rattle.std.proofs.Common.{length, length-append}
 use Rattle.table.specs.Table.{task_at, LegalTable}
 use Rattle.table.specs.declared.Table.{Table}
 use Rattle.planner.specs.declared.Record.{Record}

@@ -1,6 +1,7 @@
 -- The ways through the writing of a listing: which text each answer has, and what the buffer then holds.
 -- Assumes nothing.
-use Rattle.std.proofs.Common.{ℕ, ◌+◌, ◌≤◌, ◌<◌, arith, ◌≡◌, sym, ap, subst, ◌∙◌, List, length, length-append, lt-ltb, le-ltb}
+use Rattle.std.proofs.Common.{ℕ, ◌+◌, ◌≤◌, ◌<◌, arith, ◌≡◌, sym, ap, subst, ◌∙◌, List, length}
+use Rattle.std.proofs.Common.{length-append, lt-ltb, le-ltb}
 use Rattle.table.specs.Table.{LegalTable}
 use Rattle.table.specs.declared.Table.{Table}
 use Rattle.table.specs.declared.Refusal.{Refusal}

@@ -1,6 +1,7 @@
 -- The tasks' lines, written one after the other: one turn of the loop over plain values.
 -- Assumes nothing.
-use Rattle.std.proofs.Common.{ℕ, zero, suc, ◌+◌, ◌≤◌, ◌<◌, arith, add-one, eq-or-lt_of_le, ◌≡◌, refl, ap, ⊎_elim, List, length, length-append}
+use Rattle.std.proofs.Common.{ℕ, zero, suc, ◌+◌, ◌≤◌, ◌<◌, arith, add-one, eq-or-lt_of_le, ◌≡◌, refl, ap}
+use Rattle.std.proofs.Common.{⊎_elim, List, length, length-append}
 use Rattle.table.specs.Table.{task_at, LegalTable}
 use Rattle.table.specs.declared.Table.{Table}
 use Rattle.table.specs.Load.{load_at}

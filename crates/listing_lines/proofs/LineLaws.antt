@@ -1,6 +1,7 @@
 -- Each line of the listing as the words that are written one after the other, and its length by theirs.
 -- Assumes nothing.
-use Rattle.std.proofs.Common.{ℕ, ◌+◌, ◌≤◌, Bool, true, false, arith, ◌≡◌, refl, ap, ◌∙◌, ◌++◌, append_assoc, append-nil, length, length-append, eqb, eq-eqb, ne_eqb}
+use Rattle.std.proofs.Common.{ℕ, ◌+◌, ◌≤◌, Bool, true, false, arith, ◌≡◌, refl, ap, ◌∙◌, ◌++◌, append_assoc}
+use Rattle.std.proofs.Common.{append-nil, length, length-append, eqb, eq-eqb, ne_eqb}
 use Rattle.page.specs.Decimal.{decimal}
 use Rattle.page.specs.Words.{word, either, field}
 use Rattle.page.proofs.WordLaws.{either_after}

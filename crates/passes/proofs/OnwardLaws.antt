@@ -1,10 +1,9 @@
 -- From where a search may go on: no q below that of a task's bound is enough, under the flags of that bound
 -- and under any with which more of the other tasks are non-preemptive.
 -- Assumes nothing.
-use Rattle.std.proofs.Common.{ℕ, ◌+◌, ◌-◌, ◌≤◌, ◌<◌, arith, le_refl, ◌≡◌, refl, sym, ap, ◌∙◌, subst, false, ⊎_elim, length, ltb, leb-false, lt-ltb, le-ltb}
+use Rattle.std.proofs.Common.{ℕ, ◌+◌, ◌-◌, ◌≤◌, ◌<◌, arith, le_refl, ◌≡◌, refl, sym, ap, ◌∙◌, subst, false}
+use Rattle.std.proofs.Common.{⊎_elim, leb-false, lt-ltb, le-ltb}
 use borrow.Author.Tests.{lt-leb}
-use Rattle.base.specs.Least.{least}
-use Rattle.base.specs.Rows.{at}
 use Rattle.base.proofs.LeastLaws.{Found, Answer, least_says}
 use Rattle.model.specs.Bound.{System, by_flag, from, B, satisfies, least_length, bound}
 use Rattle.model.proofs.TermLaws.{B-mono}

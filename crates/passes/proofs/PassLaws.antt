@@ -1,7 +1,9 @@
 -- The loops over tasks that search on, and that search the rest: at the start, after one task more, at the
 -- end.
 -- Assumes nothing.
-use Rattle.std.proofs.Common.{ℕ, zero, suc, ◌+◌, ◌-◌, ◌≤◌, ◌<◌, arith, ◌≡◌, refl, sym, ap, ◌∙◌, subst, Bool, true, false, List, length, set, length-set, get_or-set_same, get_or-set_other, eqb, ltb, eq-eqb, ne_eqb, ltb-true, ltb-false}
+use Rattle.std.proofs.Common.{ℕ, zero, suc, ◌+◌, ◌≤◌, ◌<◌, arith, ◌≡◌, refl, sym, ap, ◌∙◌, subst, Bool}
+use Rattle.std.proofs.Common.{true, false, List, length, set, length-set, get_or-set_same, get_or-set_other}
+use Rattle.std.proofs.Common.{eqb, ltb, eq-eqb, ne_eqb, ltb-true, ltb-false}
 use Rattle.base.specs.Choice.{pick}
 use Rattle.base.specs.Rows.{at}
 use Rattle.base.proofs.OrderLaws.{below_none, below_next}

@@ -1,6 +1,7 @@
 -- The caller's list after an answer to a call: a refusal leaves it, what is past the last task stays, and
 -- each task's record is what document 01 says. Assumes nothing.
-use Rattle.std.proofs.Common.{ℕ, ◌≤◌, ◌<◌, arith, ◌≡◌, refl, sym, ap, ap₂, ◌∙◌, true, List, ◌++◌, ⊎_elim, length, take, drop, le-ltb}
+use Rattle.std.proofs.Common.{ℕ, ◌≤◌, ◌<◌, arith, ◌≡◌, refl, sym, ap, ap₂, ◌∙◌, true, List, ◌++◌, ⊎_elim}
+use Rattle.std.proofs.Common.{length, take, drop, le-ltb}
 use Rattle.base.specs.Rows.{at, row}
 use Rattle.base.proofs.RowLaws.{row_length, row_at}
 use Rattle.model.specs.Demands.{Passes}

@@ -1,6 +1,7 @@
 -- How many records an answer writes: none if it refuses, else one for each task; the list has room for them.
 -- Assumes nothing.
-use Rattle.std.proofs.Common.{ℕ, zero, suc, ◌≤◌, arith, ◌≡◌, refl, ap, Bool, true, false, List, length, ltb, ltb-false}
+use Rattle.std.proofs.Common.{ℕ, zero, suc, ◌≤◌, arith, ◌≡◌, refl, ap, Bool, true, false, List, length, ltb}
+use Rattle.std.proofs.Common.{ltb-false}
 use Rattle.std.proofs.Math.ListN.{length-replicate}
 use Rattle.base.specs.Choice.{pick, or_else}
 use Rattle.base.proofs.RowLaws.{row_length}
@@ -21,7 +22,8 @@ use Rattle.planner.specs.declared.Job.{Job}
 use Rattle.planner.specs.declared.Job.TheVariants.{Test, Force}
 use Rattle.planner.specs.Answers.{values_of, no_record}
 use Rattle.planner.specs.Done.{refuse, tested, failing, final, tested_by, test_done, forced_by, force_done}
-use Rattle.planner.specs.Done.{legal_done, roomed, room_done, unless_faulty, plan_done, table_from, list_done}
+use Rattle.planner.specs.Done.{legal_done, roomed, room_done, unless_faulty, plan_done, table_from}
+use Rattle.planner.specs.Done.{list_done}
 use Rattle.planner.specs.declared.Said.{Said}
 use Rattle.planner.specs.Rows.{said_done}
 

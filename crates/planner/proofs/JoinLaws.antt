@@ -1,7 +1,9 @@
 -- A list whose first k places are another's: as long as before, the other's elements in front, its own after.
 -- So is the caller's list after an answer, and so are the first 32 tasks of a list.
 -- Assumes nothing.
-use Rattle.std.proofs.Common.{ℕ, ◌+◌, ◌-◌, ◌≤◌, ◌<◌, min, arith, ◌≡◌, ap, ◌∙◌, List, ◌++◌, length, get_or, take, drop, replicate, length-append, length-drop, length-take-le, get_or-append-add, get_or-drop, get_or-take, ◌⊎◌, ⊎_elim}
+use Rattle.std.proofs.Common.{ℕ, ◌+◌, ◌-◌, ◌≤◌, ◌<◌, min, arith, ◌≡◌, ap, ◌∙◌, List, ◌++◌, length, get_or}
+use Rattle.std.proofs.Common.{take, drop, replicate, length-append, length-drop, length-take-le}
+use Rattle.std.proofs.Common.{get_or-append-add, get_or-drop, get_or-take, ⊎_elim}
 use Rattle.std.proofs.Math.ListN.{get_or-replicate}
 use Rattle.std.proofs.Math.ListN.{get_or-append, get_or-eq_default}
 use Rattle.base.proofs.OrderLaws.{le_or_lt}

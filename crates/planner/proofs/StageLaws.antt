@@ -1,6 +1,7 @@
 -- The stages of the code: what its rows and flags hold is what the definitions say, and each return is a case
 -- of its definition. Assumes nothing.
-use Rattle.std.proofs.Common.{ℕ, zero, suc, ◌+◌, ◌≤◌, ◌<◌, arith, ◌≡◌, refl, sym, ap, ap₂, ◌∙◌, true, List, set, eqb, lt-ltb, le-ltb}
+use Rattle.std.proofs.Common.{ℕ, zero, suc, ◌+◌, ◌≤◌, ◌<◌, arith, ◌≡◌, refl, sym, ap, ap₂, ◌∙◌, true, List}
+use Rattle.std.proofs.Common.{set, eqb, lt-ltb, le-ltb}
 use Rattle.base.specs.Sums.{sum_to}
 use Rattle.base.specs.Least.{first_of}
 use Rattle.base.specs.Rows.{at, row}

@@ -1,6 +1,7 @@
 -- Each answer is given exactly when document 01 says so, of a plan and of a list alike: it is the promised
 -- one if and only if it is one of the ways. Assumes nothing.
-use Rattle.std.proofs.Common.{ℕ, ◌≤◌, ◌≡◌, refl, sym, ap, subst, ◌∙◌, Bool, true, false, ◌↔◌, ⊎_elim, ltb, lt-ltb, le-ltb, ltb-true, ltb-false}
+use Rattle.std.proofs.Common.{ℕ, ◌≤◌, ◌≡◌, refl, sym, ap, subst, ◌∙◌, Bool, true, false, ◌↔◌, ⊎_elim, ltb}
+use Rattle.std.proofs.Common.{lt-ltb, le-ltb, ltb-true, ltb-false}
 use Rattle.base.specs.Choice.{pick}
 use Rattle.table.specs.Checks.{refusal}
 use Rattle.table.specs.declared.Table.{Table}

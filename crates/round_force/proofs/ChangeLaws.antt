@@ -1,6 +1,8 @@
 -- What a test that fails makes of the flags, as they are held: the mathematics' change.
 -- Assumes nothing.
-use Rattle.std.proofs.Common.{ℕ, zero, suc, ◌-◌, ◌≤◌, ◌<◌, arith, eq-zero-or-pos, ◌≡◌, refl, sym, ap, ap₂, ◌∙◌, Bool, true, false, ⊎_elim, List, set, replicate, get_or-set_same, get_or-set_other, eqb, ltb, eqb-true, lt-ltb, le-ltb}
+use Rattle.std.proofs.Common.{ℕ, zero, suc, ◌-◌, ◌≤◌, ◌<◌, arith, eq-zero-or-pos, ◌≡◌, refl, sym, ap, ap₂}
+use Rattle.std.proofs.Common.{◌∙◌, Bool, true, false, ⊎_elim, List, set, replicate, get_or-set_same}
+use Rattle.std.proofs.Common.{get_or-set_other, eqb, ltb, eqb-true, lt-ltb, le-ltb}
 use Rattle.std.proofs.Math.ListN.{length-replicate, get_or-replicate}
 use borrow.Author.Tests.{eqb-false}
 use Rattle.base.specs.Choice.{pick, or_else}

@@ -1,7 +1,8 @@
 -- The loop of passes over the flags as they are held: what it knows is what the mathematics' loop knows of
 -- the list that is held, so that it ends where forcing does.
 -- Assumes nothing.
-use Rattle.std.proofs.Common.{ℕ, ◌+◌, ◌-◌, ◌≤◌, ◌<◌, arith, ◌≡◌, sym, ap, ◌∙◌, ◌⊎◌, inl, inr, ⊎_elim, List, eqb}
+use Rattle.std.proofs.Common.{ℕ, ◌+◌, ◌-◌, ◌≤◌, ◌<◌, arith, ◌≡◌, sym, ap, ◌∙◌, ◌⊎◌, inl, inr, ⊎_elim, List}
+use Rattle.std.proofs.Common.{eqb}
 use Rattle.base.specs.Sums.{sum_to}
 use Rattle.base.specs.Least.{first_of}
 use Rattle.base.specs.Rows.{at, row}

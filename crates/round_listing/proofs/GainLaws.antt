@@ -1,6 +1,7 @@
 -- A text whose last line gains the round count: its length, and how it is written over the 0A that ended it.
 -- Assumes nothing.
-use Rattle.std.proofs.Common.{ℕ, ◌+◌, ◌-◌, ◌≤◌, ◌<◌, arith, ◌≡◌, ap, ◌∙◌, List, ◌++◌, append_assoc, append-nil, length, take, drop, length-append, length-take-le, drop-drop}
+use Rattle.std.proofs.Common.{ℕ, ◌+◌, ◌-◌, ◌≤◌, ◌<◌, arith, ◌≡◌, ap, ◌∙◌, List, ◌++◌, append_assoc}
+use Rattle.std.proofs.Common.{append-nil, length, take, drop, length-append, length-take-le, drop-drop}
 use Rattle.std.proofs.Math.Seq.{take-append-le, drop-append-add}
 use Rattle.page.specs.Decimal.{decimal}
 use Rattle.page.specs.Words.{word, field}

@@ -1,7 +1,8 @@
 -- A flat table into rows, task by task: what is known before each task, and what is answered at each way out.
 -- What the checks say is said by `CheckLaws` of table, what is in the rows by `LoadLaws` of loading.
 -- Assumes nothing.
-use Rattle.std.proofs.Common.{ℕ, ◌+◌, ◌≤◌, ◌<◌, min, arith, ◌≡◌, sym, ap, ◌∙◌, Bool, List, eqb, length, replicate}
+use Rattle.std.proofs.Common.{ℕ, ◌+◌, ◌≤◌, ◌<◌, min, arith, ◌≡◌, sym, ap, ◌∙◌, Bool, List, eqb, length}
+use Rattle.std.proofs.Common.{replicate}
 use Rattle.base.specs.Choice.{pick}
 use Rattle.base.proofs.RowLaws.{row_at}
 use Rattle.table.specs.declared.Task.{Task}

@@ -1,7 +1,8 @@
 -- Reading into rows, line by line: what is known before each line, and what is loaded at each way out. What
 -- the lines are is said by `ReadLaws` of lines, what is in the rows by `LoadLaws` of loading.
 -- Assumes nothing.
-use Rattle.std.proofs.Common.{ℕ, zero, suc, ◌+◌, ◌≤◌, ◌<◌, min, arith, ◌≡◌, refl, sym, ap, ap₂, subst, ◌∙◌, List, eqb, length, drop, replicate, lt-ltb, le-ltb}
+use Rattle.std.proofs.Common.{ℕ, zero, suc, ◌+◌, ◌≤◌, ◌<◌, min, arith, ◌≡◌, refl, sym, ap, ap₂, subst, ◌∙◌}
+use Rattle.std.proofs.Common.{List, eqb, length, drop, replicate, lt-ltb, le-ltb}
 use Rattle.base.specs.Choice.{pick, or_else}
 use Rattle.base.specs.Rows.{row}
 use Rattle.base.proofs.RowLaws.{row_at, fill_start}

@@ -1,7 +1,7 @@
 -- The rows of a legal table are legal, and the system that they hold gives each task the bound that the
 -- table's does.
 -- Assumes nothing.
-use Rattle.std.proofs.Common.{ℕ, ◌+◌, ◌-◌, ◌<◌, arith, ◌≡◌, refl, sym, ap, ◌∙◌, List, inr, set, replicate}
+use Rattle.std.proofs.Common.{ℕ, ◌+◌, ◌<◌, arith, ◌≡◌, refl, sym, ap, ◌∙◌, List, inr, set, replicate}
 use Rattle.base.specs.Rows.{at, row}
 use Rattle.base.proofs.RowLaws.{row_at, fill_start, fill_step}
 use Rattle.base.proofs.LeastLaws.{no_worse_both}

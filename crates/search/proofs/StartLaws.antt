@@ -1,7 +1,7 @@
 -- Where a search begins: with fewer shares than cores q = 1 is enough; else no q is before the jump from
 -- q = 0, where a share of min(C, cap, q) at least is sure.
 -- Assumes nothing.
-use Rattle.std.proofs.Common.{ℕ, ◌+◌, ◌*◌, ◌-◌, ◌≤◌, ◌<◌, min, arith, ◌≡◌, sym, ap, ◌∙◌, List, ltb}
+use Rattle.std.proofs.Common.{ℕ, ◌+◌, ◌*◌, ◌≤◌, ◌<◌, min, arith, ◌≡◌, sym, ap, ◌∙◌, List, ltb}
 use Rattle.std.proofs.Common.{replicate, set, lt-ltb}
 use Rattle.base.specs.Rows.{at, row}
 use Rattle.base.specs.Sums.{sum_to}

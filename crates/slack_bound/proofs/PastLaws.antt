@@ -2,7 +2,6 @@
 -- either.
 -- Assumes nothing.
 use Rattle.std.proofs.Common.{ℕ, ◌+◌, ◌*◌, ◌≤◌, ◌<◌, arith, ◌≡◌, ap, ◌∙◌, inl, inr, ltb, le-ltb, ltb-false}
-use Rattle.base.specs.Least.{least}
 use Rattle.base.proofs.LeastLaws.{Answer, least_says, least_none, least_same}
 use Rattle.search.proofs.ClimbLaws.{least_below}
 

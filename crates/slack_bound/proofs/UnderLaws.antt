@@ -3,10 +3,9 @@
 use Rattle.std.proofs.Common.{ℕ, ◌+◌, ◌*◌, ◌-◌, ◌≤◌, ◌<◌, arith, ◌≡◌, refl, sym, ap, ap₂, ◌∙◌, List, ltb}
 use Rattle.base.specs.Rows.{at}
 use Rattle.base.specs.Sums.{sum_to, top_to}
-use Rattle.base.specs.Least.{least}
 use Rattle.base.proofs.SumLaws.{top_same}
 use Rattle.base.proofs.LeastLaws.{least_same}
-use Rattle.model.specs.Bound.{System, under, by_flag, cap, share_of, block_of, plus, bound}
+use Rattle.model.specs.Bound.{System, under, by_flag, share_of, block_of, plus, bound}
 use Rattle.model.proofs.BoundLaws.{bound_range}
 use Rattle.table.specs.Table.{policy_of}
 use Rattle.rows.specs.declared.Head.{Head}

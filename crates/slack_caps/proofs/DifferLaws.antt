@@ -1,6 +1,7 @@
 -- Under EDF document 01's candidates are the differences; under FP there are none of these.
 -- Assumes nothing.
-use Rattle.std.proofs.Common.{ℕ, zero, suc, ◌+◌, ◌-◌, ◌≤◌, ◌<◌, min, arith, ◌≡◌, refl, sym, ap, ◌∙◌, Bool, true, false, eqb}
+use Rattle.std.proofs.Common.{ℕ, zero, suc, ◌+◌, ◌-◌, ◌≤◌, ◌<◌, min, arith, ◌≡◌, refl, sym, ap, ◌∙◌, Bool}
+use Rattle.std.proofs.Common.{true, false, eqb}
 use Rattle.base.specs.Choice.{pick}
 use Rattle.base.specs.Sums.{top_to}
 use Rattle.base.proofs.SumLaws.{top_cap}

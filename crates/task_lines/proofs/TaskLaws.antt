@@ -1,6 +1,7 @@
 -- A task's line as the words that are written one after the other, and its length by theirs.
 -- Assumes nothing.
-use Rattle.std.proofs.Common.{ℕ, ◌+◌, arith, ◌≡◌, ap, ◌∙◌, ◌++◌, append_assoc, append-nil, length, length-append}
+use Rattle.std.proofs.Common.{ℕ, ◌+◌, arith, ◌≡◌, ap, ◌∙◌, ◌++◌, append_assoc, append-nil, length}
+use Rattle.std.proofs.Common.{length-append}
 use Rattle.page.specs.Decimal.{decimal}
 use Rattle.page.specs.Words.{word, either, field}
 use Rattle.page.proofs.WordLaws.{either_after}

@@ -1,6 +1,7 @@
 -- Each line as the words that are written one after the other, its length by theirs, and that it is short.
 -- Assumes nothing.
-use Rattle.std.proofs.Common.{ℕ, zero, suc, ◌+◌, ◌≤◌, ◌<◌, arith, ◌≡◌, ap, ◌∙◌, ◌++◌, append_assoc, append-nil, length, length-append}
+use Rattle.std.proofs.Common.{ℕ, zero, suc, ◌+◌, ◌≤◌, ◌<◌, arith, ◌≡◌, ap, ◌∙◌, ◌++◌, append_assoc}
+use Rattle.std.proofs.Common.{append-nil, length, length-append}
 use Rattle.page.specs.Decimal.{decimal}
 use Rattle.page.specs.Words.{word, either}
 use Rattle.page.proofs.WordLaws.{either_zero, either_other, either_after}

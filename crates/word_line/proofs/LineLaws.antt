@@ -1,6 +1,7 @@
 -- The line of a word in the parts that are written one after the other, and the text of each answer.
 -- Assumes nothing.
-use Rattle.std.proofs.Common.{ℕ, ◌+◌, ◌/◌, ◌%◌, ◌≤◌, arith, ◌≡◌, refl, sym, ap, ◌∙◌, List, [], ◌∷◌, ◌++◌, length}
+use Rattle.std.proofs.Common.{ℕ, ◌+◌, ◌/◌, ◌%◌, ◌≤◌, arith, ◌≡◌, refl, sym, ap, ◌∙◌, List, [], ◌∷◌, ◌++◌}
+use Rattle.std.proofs.Common.{length}
 use Rattle.table.specs.declared.Refusal.{Refusal}
 use Rattle.frames.specs.Text.{bytes_text, word_bytes}
 use Rattle.planner.specs.declared.Done.{Done}

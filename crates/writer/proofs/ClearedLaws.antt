@@ -1,6 +1,7 @@
 -- The table with zeros past its last task has the same text, is legal where the table is, and has its levels.
 -- Assumes nothing.
-use Rattle.std.proofs.Common.{ℕ, zero, suc, ◌≤◌, ◌<◌, arith, ◌≡◌, refl, sym, ap, ap₂, subst, ◌∙◌, Bool, true, false, ◌++◌, ltb, ltb-true, ltb-false}
+use Rattle.std.proofs.Common.{ℕ, zero, suc, ◌≤◌, ◌<◌, arith, ◌≡◌, refl, sym, ap, ap₂, subst, ◌∙◌, Bool}
+use Rattle.std.proofs.Common.{true, false, ◌++◌, ltb, ltb-true, ltb-false}
 use Rattle.std.proofs.Math.ListN.{get_or-eq_default}
 use Rattle.base.specs.Rows.{row}
 use Rattle.base.proofs.RowLaws.{row_at, row_past, row_length}
@@ -9,7 +10,8 @@ use Rattle.table.specs.declared.Table.{Table}
 use Rattle.table.specs.Table.{no_task, task_at, LegalTask, LegalTable}
 use Rattle.frames.specs.Text.{line_text}
 use Rattle.lines.specs.Form.{form1}
-use Rattle.lines.specs.Writes.{task_bytes, tasks_text, text_by, plan_text, head_bytes, ZerosPast, PlaceLevels}
+use Rattle.lines.specs.Writes.{task_bytes, tasks_text, text_by, plan_text, head_bytes, ZerosPast}
+use Rattle.lines.specs.Writes.{PlaceLevels}
 use Rattle.writer.specs.Ways.{cleared}
 
 module _ (t : Table) (small : t.n ≤ 32) where

@@ -1,5 +1,6 @@
 -- What a buffer holds after a word was written into it. Assumes nothing.
-use Rattle.std.proofs.Common.{ℕ, ◌+◌, ◌-◌, arith, ◌≡◌, sym, ap, ◌∙◌, List, ◌++◌, append_assoc, length, take, drop, length-append, length-take-le, take_at, drop_at}
+use Rattle.std.proofs.Common.{ℕ, ◌+◌, ◌-◌, arith, ◌≡◌, sym, ap, ◌∙◌, List, ◌++◌, append_assoc, length, take}
+use Rattle.std.proofs.Common.{drop, length-append, length-take-le, take_at, drop_at}
 use Rattle.buffer.specs.Put.{Put}
 
 module _ {s w s' : List ℕ} {at r : ℕ} (p : Put s at w r s') where

@@ -13,7 +13,9 @@
 --   the end lies within the buffer                                    end_within
 --
 -- Assumes nothing.
-use Rattle.std.proofs.Common.{ℕ, zero, suc, ◌+◌, ◌-◌, ◌≤◌, ◌<◌, arith, ◌≡◌, refl, sym, ap, subst, ◌∙◌, Bool, true, false, ◌↔◌, ◌⊎◌, ⊎_elim, List, ltb, length, take, drop, lt-ltb, le-ltb, ltb-true, ltb-false}
+use Rattle.std.proofs.Common.{ℕ, zero, suc, ◌+◌, ◌≤◌, ◌<◌, arith, ◌≡◌, refl, sym, ap, subst, ◌∙◌, Bool}
+use Rattle.std.proofs.Common.{true, false, ◌↔◌, ⊎_elim, List, ltb, length, take, drop, lt-ltb, le-ltb}
+use Rattle.std.proofs.Common.{ltb-true, ltb-false}
 use Rattle.base.specs.Choice.{or_else}
 use Rattle.base.proofs.RowLaws.{row_is}
 use Rattle.table.specs.declared.Task.{Task}

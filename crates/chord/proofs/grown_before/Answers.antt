@@ -1,4 +1,3 @@
-use Rattle.std.proofs.Common.{rules}
 use Rattle.chord.proofs.JumpLaws.{run_start, run_still, run_on, run_end}
 use Rattle.chord.proofs.grown_before.Goals as goal
 use Rattle.chord.proofs.grown_before.Goals.{then-g-d, else-g-d}

@@ -1,0 +1,28 @@
+use Rattle.std.proofs.Common.{arith, ap, ◌∙◌}
+use Rattle.flags.specs.Flags.{flag_in}
+use Rattle.rows.specs.Levels.{level_in}
+use Rattle.forcing.specs.Forced.{deepest}
+use Rattle.forcing.proofs.DeepLaws.{deepest_start, deepest_read, below_edf, below_fp}
+use Rattle.forcing.proofs.below_of.Goals as goal
+
+pub returns-then-head-eq0 : goal.returns-then-head-eq0
+returns-then-head-eq0 c = below_edf _ _ _ c.if-head-eq0.true
+
+pub loop-i-init : goal.loop-i-init
+loop-i-init c = (omega arith, deepest_start _ _)
+
+pub loop-i-preserved : goal.loop-i-preserved
+loop-i-preserved c =
+    let g = c.args in (
+      omega (arith, c.loop-i-test.true),
+      deepest_read (level_in g.head.levels) (flag_in g.flags) (flag_in g.failing)
+          c.loop-i.i c.loop-i.invariant.1 c.deeper-below.ensures
+          c.level_at-level.ensures c.flag_at.ensures
+          c.flag_at-in-loop-i.ensures,
+    )
+
+pub returns : goal.returns
+returns c =
+    let inv = c.loop-i.invariant in
+    below_fp _ _ _ c.if-head-eq0.false
+    (inv.1 ∙ ap (deepest _ _) (omega (arith, inv.0, c.loop-i-test.false)))

@@ -1,0 +1,11 @@
+-- `planner::room_done` meets its contract: 13 first, and then what the table is answered.
+-- Assumes nothing.
+use Rattle.std.proofs.Common.{◌∙◌}
+use Rattle.planner.proofs.StageLaws.{room_short, room_enough}
+use Rattle.planner.proofs.room_done.Goals as goal
+
+pub returns-then-room-n : goal.returns-then-room-n
+returns-then-room-n c = c.refused.ensures ∙ room_short _ _ _ c.if-room-n.true
+
+pub returns : goal.returns
+returns c = c.legal_done.ensures ∙ room_enough _ _ _ c.if-room-n.false

@@ -1,0 +1,16 @@
+-- `risen_search::least_risen` meets its contract. The loop's invariant: no q before this one is enough; the
+-- measure is what is left of the range.
+-- Assumes nothing.
+use Rattle.std.proofs.Common.{◌+◌, ◌-◌}
+use Rattle.search.proofs.ClimbLaws.{Climbing}
+use Rattle.search.proofs.SearchLaws.{Roomy}
+use Rattle.risen_search.proofs.RisenSearchLaws.{whole_at}
+use Rattle.risen_search.proofs.least_risen.Given as goal
+
+abbrev pub invariant-loop-q : goal.invariant-loop-q
+invariant-loop-q l =
+    (Climbing (whole_at l.rest l.cost l.reach l.cap l.most l.wait l.n l.m l.ahead) l.m l.last l.q) × (Roomy l.row l.line)
+
+abbrev pub decreases-loop-q : goal.decreases-loop-q
+decreases-loop-q l =
+    l.last + 1 - l.q
