@@ -1,6 +1,7 @@
 -- The work behind the front page of Wish 5: what a reply says of forcing on each number of cores, by the ways
 -- of the definition and by the law that more cores never hurt. Assumes nothing.
-use Rattle.std.proofs.Common.{ℕ, zero, suc, ◌≤◌, ◌<◌, arith, le_refl, ◌≡◌, refl, sym, ap, subst, ◌∙◌, true, false, ◌↔◌, List, ◌++◌, length, take, drop}
+use Rattle.std.proofs.Common.{ℕ, zero, suc, ◌≤◌, ◌<◌, arith, le_refl, ◌≡◌, refl, sym, ap, subst, ◌∙◌, true}
+use Rattle.std.proofs.Common.{false, ◌↔◌, List, ◌++◌, length, take, drop}
 use Rattle.base.specs.Choice.{or_else}
 use Rattle.table.specs.declared.Table.{Table}
 use Rattle.table.specs.Checks.{refusal}

@@ -2,7 +2,8 @@
 -- theorem. First of the model: `test2 s fs` is the test and `force2 s fs` the forcing of the table s with the
 -- flags fs, and `Slackless s` says that s is a table of edition 1. Then of every result that the promise
 -- `AnsweredIn` of run_plan_in and run_tasks_in allows. Assumes nothing.
-use Rattle.std.proofs.Common.{ℕ, suc, ◌+◌, ◌*◌, ◌-◌, ◌/◌, ◌%◌, ◌≤◌, ◌<◌, min, ◌≡◌, true, ◌↔◌, List, T, length}
+use Rattle.std.proofs.Common.{ℕ, suc, ◌+◌, ◌*◌, ◌-◌, ◌/◌, ◌%◌, ◌≤◌, ◌<◌, min, ◌≡◌, true, ◌↔◌, List, T}
+use Rattle.std.proofs.Common.{length}
 use Rattle.base.specs.Sums.{sum_to}
 use Rattle.base.specs.Least.{NoWorse}
 use Rattle.base.specs.Rows.{at}

@@ -1,6 +1,7 @@
 -- What the entries' promise allows under either edition: one result; under the first the planner's; under the
 -- second what document 02 says, exactly, and what a yes means. Assumes nothing.
-use Rattle.std.proofs.Common.{ℕ, ◌≤◌, ◌<◌, arith, ◌≡◌, refl, sym, ap, subst, ◌∙◌, true, ◌↔◌, List, map, length}
+use Rattle.std.proofs.Common.{ℕ, ◌≤◌, ◌<◌, arith, ◌≡◌, refl, sym, ap, subst, ◌∙◌, true, ◌↔◌, List, map}
+use Rattle.std.proofs.Common.{length}
 use Rattle.std.proofs.Math.Path.{fun_ext}
 use Rattle.std.proofs.Math.ListN.{get_or-map}
 use Rattle.base.specs.Rows.{at}

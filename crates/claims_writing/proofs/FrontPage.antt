@@ -23,7 +23,8 @@ use Rattle.writer.specs.Ways.{TooFull, Way, between, cleared}
 use Rattle.writer.proofs.Theorems as writer
 use Rattle.changer.specs.declared.Changed.{Changed}
 use Rattle.changer.specs.declared.Changed.TheVariants.{End as Ends, Refused as Stops}
-use Rattle.changer.specs.Changed.{with_flags, changed_table, ChangedAs, sent_table, forced, flags_in, bounds_in}
+use Rattle.changer.specs.Changed.{with_flags, changed_table, ChangedAs, sent_table, forced, flags_in}
+use Rattle.changer.specs.Changed.{bounds_in}
 use Rattle.changer.proofs.Theorems as changer
 use Rattle.changer.proofs.Eighteen.{never_eighteen}
 use Rattle.told_plans.specs.PlanNumbers.{written_told, changed_told}

@@ -1,7 +1,7 @@
 -- The code for C can be read back, for every answer of the planner; the numbers of n tasks are answered as
 -- those tasks are; and a last task that is not whole is refused. Assumes nothing.
-use Rattle.std.proofs.Common.{ℕ, ◌+◌, ◌*◌, ◌/◌, ◌%◌, ◌≤◌, ◌<◌, min, arith, ◌≡◌, refl, sym, ap, ◌∙◌, Bool, true, false, ⊎_elim, List, length, replicate, eq-eqb, ne_eqb}
-use Rattle.base.specs.Rows.{at}
+use Rattle.std.proofs.Common.{ℕ, ◌+◌, ◌*◌, ◌/◌, ◌%◌, ◌≤◌, ◌<◌, min, arith, ◌≡◌, refl, sym, ap, ◌∙◌, Bool}
+use Rattle.std.proofs.Common.{true, false, ⊎_elim, List, length, replicate, eq-eqb, ne_eqb}
 use Rattle.base.proofs.RowLaws.{row_is}
 use Rattle.table.specs.declared.Task.{Task}
 use Rattle.table.specs.Table.{no_task, task_at}

@@ -1,6 +1,7 @@
 -- The code of each case of an answer, and from the answer by value to the promises.
 -- Assumes nothing.
-use Rattle.std.proofs.Common.{ℕ, zero, suc, ◌+◌, ◌*◌, ◌≤◌, arith, ◌≡◌, refl, ap, subst, ◌∙◌, Bool, true, false, List}
+use Rattle.std.proofs.Common.{ℕ, zero, suc, ◌+◌, ◌*◌, ◌≤◌, arith, ◌≡◌, refl, ap, subst, ◌∙◌, Bool, true}
+use Rattle.std.proofs.Common.{false, List}
 use Rattle.table.specs.declared.Refusal.{Refusal}
 use Rattle.planner.specs.declared.Verdict.{Verdict}
 use Rattle.planner.specs.declared.Done.{Done}

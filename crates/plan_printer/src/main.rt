@@ -10,9 +10,8 @@
 ghost use Rattle.std.specs.Prelude.{◌≤◌, length, replicate};
 ghost use Rattle.listing.specs.Listing.{Ready};
 
-use std::io::Read;
-
 use listing::Sent;
+use std::io::Read;
 
 // How many bytes were read, and whether a read failed.
 #[derive(Clone, Copy)]
