@@ -33,15 +33,14 @@
 // such input gives nothing on standard output, and a line on standard error.
 #![tactic(auto)]
 
-mod numbers;
-mod rounds;
+mod second;
 mod show;
+mod typed;
 
 ghost use Rattle.std.specs.Prelude.{◌≤◌, length};
 
-use std::io::Read;
-
 use changer::Changed;
+use std::io::Read;
 use writer::Written;
 
 // How many bytes were read, and whether a read failed.
@@ -123,7 +122,7 @@ fn apply(text: &[u8]) {
 
 // The numbers of a table as plan lines.
 fn make(text: &[u8]) {
-    let typed = numbers::table_in(text);
+    let typed = typed::table_in(text);
     if !typed.right {
         io::write_all(2, b"desk: these are not the numbers of a table\n");
         return;
@@ -198,7 +197,7 @@ fn answer(s: &[u8], n: usize)
         apply(&s[rest..]);
         return;
     }
-    if rounds::asked(s, n) {
+    if second::asked(s, n) {
         return;
     }
     if is_word(s, n, b"show") {

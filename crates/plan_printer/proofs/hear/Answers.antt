@@ -6,7 +6,7 @@ use Rattle.listing.proofs.SentLaws.{sent_ready}
 use Rattle.plan_printer.proofs.hear.Goals as goal
 
 pub slice_bounds-force_text-end : goal.slice_bounds-force_text-end
-slice_bounds-force_text-end c = sym (length-take-le _ _ c.read_text-input.ensures)
+slice_bounds-force_text-end g c = sym (length-take-le _ _ c.read_text-input.ensures)
 
 pub returns : goal.returns
-returns c = sent_ready _ c.force_text.ensures (omega (arith, length-replicate {A = ℕ} 2048 0))
+returns g c = sent_ready _ c.force_text.ensures (omega (arith, length-replicate {A = ℕ} 2048 0))

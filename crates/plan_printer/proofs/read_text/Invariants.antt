@@ -4,7 +4,7 @@ use Rattle.std.proofs.Common.{◌≤◌, ◌-◌, ◌≡◌, length}
 use Rattle.plan_printer.proofs.read_text.Given as goal
 
 abbrev pub invariant-loop-count : goal.invariant-loop-count
-invariant-loop-count l = (l.count ≤ length l.text) × (length l.text ≡ length l.initial.text)
+invariant-loop-count g l = (l.count ≤ length l.text) × (length l.text ≡ length l.initial.text)
 
 abbrev pub decreases-loop-count : goal.decreases-loop-count
-decreases-loop-count l = length l.text - l.count
+decreases-loop-count g l = length l.text - l.count
