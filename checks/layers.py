@@ -29,7 +29,7 @@ def crates():
         line = line.split("#")[0].strip()
         if line:
             name, _, rest = line.partition(":")
-            names[name.strip()] = rest.split()
+            names[name.split()[0]] = rest.split()
     return names
 
 
@@ -114,7 +114,8 @@ def faults():
         allowed = below(names, crate) | {crate}
         base = ROOT / "crates" / crate
         for path in sorted(base.rglob("*")):
-            if path.suffix not in (".rt", ".antt"):
+            # out/ is what Rattle made
+            if path.suffix not in (".rt", ".antt") or path.is_relative_to(base / "out"):
                 continue
             is_code = path.suffix == ".rt"
             where, text = path.relative_to(ROOT), path.read_text(encoding="utf-8")
