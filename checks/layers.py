@@ -124,7 +124,7 @@ def faults():
             for other in sorted(named(text, is_code) & set(names) - allowed):
                 yield f"{where}: names the crate {other}, which crates.txt does not put below {crate}"
             is_spec = path.parent == base / "specs"
-            if is_spec and re.search(r"^(?:unfoldable )?(?:pub )?use Rattle\.\w+\.proofs\.", text, re.M):
+            if is_spec and re.search(r"\bRattle\.\w+\.proofs\.", COMMENT.sub("", text)):
                 yield f"{where}: a definition names a law: move what it needs into specs/"
             for name in idle(text, is_code):
                 yield f"{where}: imports {name} and does not use it"

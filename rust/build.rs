@@ -1,4 +1,5 @@
-//! Links the archive: in the folder that ESKIHRUM_LIB_DIR names, or else where `tools/build.sh archive` puts it.
+//! Links the archive: in the folder that ESKIHRUM_LIB_DIR names, or else where `tools/build.sh archive` puts
+//! it.
 
 use std::path::PathBuf;
 
