@@ -128,7 +128,8 @@ build() {
         rm -f "$log"
         return 0
     fi
-    tail -n 20 "$log" >&2
+    # without the counts of what rt loaded
+    grep -Ev '^(logic /|statements |library )' "$log" | tail -n 20 >&2
     rm -f "$log"
     say "the $name could not be built: the lines above are the end of what rt said"
     return 3
