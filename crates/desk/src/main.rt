@@ -39,9 +39,8 @@ mod show;
 
 ghost use Rattle.std.specs.Prelude.{◌≤◌, length};
 
-use std::io::Read;
-
 use changer::Changed;
+use std::io::Read;
 use writer::Written;
 
 // How many bytes were read, and whether a read failed.

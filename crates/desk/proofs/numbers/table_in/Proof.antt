@@ -12,7 +12,8 @@ decreases-loop s cores policy n right₀ tasks₀ at₀ i₀ right tasks at i = 
 pub table-in-spec : {M : Type 1} → statement M
 table-in-spec =
     tie.close
-    (tie.spec invariant-loop decreases-loop (λ c κs. search rules) (λ c κs. search rules) (λ c κs. search rules)
+    (tie.spec invariant-loop decreases-loop (λ c κs. search rules) (λ c κs. search rules)
+    (λ c κs. search rules)
     (λ c. search rules) (λ c. search rules) (λ c. search rules) (λ c. search rules) (λ c κs. search rules)
     (λ c. search rules) (λ c. search rules) (λ c. search rules) (λ c. search rules) (λ c. search rules)
     (λ c κs. search rules) (λ c. search rules) (λ c. search rules))
