@@ -11,7 +11,7 @@ DIST ?= target/dist
 build: ## prove and build the two programs and the archive for C and Rust (some minutes the first time)
 	tools/build.sh printer desk archive
 
-check: ## the gate, with a record for `make dist`; then printer and archive are built again
+check: ## the gate, with a record for `make dist`; printer and archive are there afterwards
 	tools/gate.sh
 
 quick: ## the checks that take a minute or two once all is proved

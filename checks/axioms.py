@@ -1,18 +1,25 @@
 #!/usr/bin/env python3
 """axioms.py: what each crate assumes.
 
-A library crate of this repository assumes nothing: it names no library of the kit whose contracts are
-assumed (crates.txt), and where its check was made in this checkout, the last line of that check has no axiom.
-A program assumes the contracts of the C functions that it calls. Prints a line for each crate, and exits with
-1 where a library crate assumes something, a check that was made did not prove its crate, or docs/TRUST.md has
-no row, or another figure, for a crate.
+A library crate of this repository assumes nothing: it names no library of the kit (crates.txt), its code
+names nothing of std that reaches the system, and where its check was made in this checkout, the last line of
+that check has no axiom. The archive's check says of every library below it, Rattle's own too, that it reaches
+no function whose contract is assumed. A program assumes the contracts of the C functions that it reaches.
+Prints a line for each crate, and exits with 1 where a library crate assumes something, a check that was made
+did not prove its crate, a product is there and what its check said is not, or docs/TRUST.md has no row, or
+another figure, for a crate.
 """
 import pathlib
 import re
 import sys
 
 ROOT = pathlib.Path(__file__).resolve().parent.parent
-ASSUMED = {"libc", "io", "os"}
+# what tools/build.sh puts into target/, and its crate
+PRODUCTS = {"plan_printer": "bin/plan_printer", "desk": "bin/desk", "eskihrum": "staticlib/libeskihrum.a"}
+# std's ways to the system, and a block of C functions
+REACHES = re.compile(
+    r"\bstd::(?:\{|\w*io\b|fs|net|env|time|process|thread|os)|\bHostRuntime\b|extern \"C\" *\{"
+)
 
 
 def crates():
@@ -20,17 +27,13 @@ def crates():
     for line in (ROOT / "crates.txt").read_text(encoding="utf-8").splitlines():
         name, _, rest = line.split("#")[0].partition(":")
         if name.strip():
-            yield name.strip(), rest.split()
+            yield name.split()[0], rest.split()
 
 
-def last_line(name):
-    """The last line of the crate's check; where the crate was unchanged it stands in the older log."""
-    for kind in ("out", "say"):
-        log = ROOT / "target" / "log" / f"{name}.{kind}"
-        said = re.findall(r"^logic=\S.*$", log.read_text(encoding="utf-8") if log.is_file() else "", re.M)
-        if said:
-            return said[-1]
-    return ""
+def check(name):
+    """What the crate's last check here said, as tools/build.sh has kept it."""
+    log = ROOT / "target" / "log" / name
+    return log.read_text(encoding="utf-8") if log.is_file() else ""
 
 
 def told():
@@ -39,10 +42,25 @@ def told():
     return {row[0]: row[1:] for row in re.findall(r"^\| (\w+) \| (\d+) \| (axioms=\d+) \|$", text, re.M)}
 
 
+def assumed(name, below, every):
+    """What a library crate assumes, or might, by crates.txt, its code and its check."""
+    for other in below:
+        if other not in every:
+            yield f"it names {other}, a library of the kit"
+    for path in sorted((ROOT / "crates" / name / "src").rglob("*.rt")):
+        code = re.sub(r"//.*", "", path.read_text(encoding="utf-8"))
+        for found in REACHES.findall(code):
+            yield f"{path.relative_to(ROOT)} has {found}"
+    said = check(name)
+    yield from re.findall(r"\b(?:axioms|foreign)=\S+", said)
+    yield from re.findall(r"^axioms \w+: (?!none reached).*$", said, re.M)
+
+
 def main():
-    wrong, rows = 0, told()
-    for name, below in crates():
-        last = last_line(name)
+    wrong, rows, every = 0, told(), dict(crates())
+    for name, below in every.items():
+        said = check(name)
+        last = (re.findall(r"^logic=\S.*$", said, re.M) or [""])[-1]
         axioms = re.findall(r"\b(?:axioms|foreign)=\S+", last)
         program = (ROOT / "crates" / name / "src" / "main.rt").is_file()
         functions = re.search(r"functions=(\d+)", last)
@@ -58,9 +76,12 @@ def main():
         if last and not last.startswith("logic=proved"):
             wrong += 1
             print(f"{name}: not proved: {last}")
-        if not program and (axioms or ASSUMED & set(below)):
+        product = ROOT / "target" / PRODUCTS.get(name, "none")
+        if product.is_file() and not re.search(r"^axioms \w+: ", said, re.M):
             wrong += 1
-            what = " ".join(axioms) or "it names a library of C"
+            print(f"{name}: {product.relative_to(ROOT)} is there, and what its check said is not: remove it")
+        for what in [] if program else assumed(name, below, every):
+            wrong += 1
             print(f"{name}: a library crate assumes something: {what}")
     if wrong:
         sys.exit(f"axioms: {wrong} crates to mend")

@@ -16,8 +16,8 @@ import sys
 ROOT = pathlib.Path(__file__).resolve().parent.parent
 SOURCE = ROOT / "crates" / "eskihrum" / "src"
 TOLD = ROOT / "crates" / "told" / "specs" / "Told.antt"
-# A definition that puts one number more into a place of such an answer: `set (toldOf ..) PLACE NAME`, or
-# `.. PLACE (.. .NAME)`.
+# A definition that puts one number more into a place of such an answer: `set (told_of ..) PLACE NAME`, or
+# `.. PLACE f.NAME`.
 ADDED = [
     ROOT / "crates" / "edition_jobs" / "specs" / "Jobs.antt",
     ROOT / "crates" / "fewest_jobs" / "specs" / "FewestTold.antt",
@@ -64,7 +64,7 @@ def one_line(text):
 def exports():
     """name: ([(parameter, type)], result) of each exported function of the source."""
     found = {}
-    mark = r'#\[no_mangle\]\s*pub extern "C" fn (\w+)\(([^)]*)\)\s*(?:->\s*(\w+))?'
+    mark = r'#\[unsafe\(no_mangle\)\]\s*pub extern "C" fn (\w+)\(([^)]*)\)\s*(?:->\s*(\w+))?'
     for path in sorted(SOURCE.rglob("*.rt")):
         for name, inside, result in re.findall(mark, path.read_text(encoding="utf-8")):
             pairs = [part.split(":", 1) for part in one_line(inside).split(",") if part]
@@ -124,7 +124,7 @@ def fields():
     order = {FIELD[entry]: place for place, entry in entries if entry in FIELD}
     for path in ADDED:
         text = path.read_text(encoding="utf-8")
-        more = re.findall(r"= set \(toldOf .*\) (\d+) (?:\(\w+ \.)?(\w+)\)?$", text, re.M)
+        more = re.findall(r"= set \(told_of .*\) (\d+) (?:\w+\.)?(\w+)$", text, re.M)
         order |= {name: int(place) for place, name in more}
     body = re.search(r"typedef struct eskihrum_answer \{(.*?)\}", header, re.S).group(1)
     in_c, place = {}, 0

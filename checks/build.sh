@@ -23,27 +23,36 @@ fail() {
 }
 
 mkdir "$tree" "$room/with_rt"
-cp -R plan tools docs crates.txt TOOLCHAIN VERSION .ci checks crates "$tree"
+cp -R plan tools docs crates.txt TOOLCHAIN VERSION .ci checks "$tree"
+# without what rt made
+tar -cf - --exclude='crates/*/out' crates | tar -xf - -C "$tree"
 cp target/bin/plan_printer "$room/printer" || fail "there is no printer: run make"
 bare_tools "$room/bare"
 
 cat >"$room/with_rt/rt" <<EOF
 #!/bin/sh
-# A stand-in for rt: it proves nothing. Two at a time are one too many.
+# A stand-in for rt: it proves nothing. Two at a time are one too many. As rt does, it works in the folder of
+# a crate, speaks of a program on standard error, and runs it on what it gets.
 case \$1 in
     version) cat "$room/version"; exit 0 ;;
+    ci) cat "$room/ci"; exit "\$(cat "$room/ci_status")" ;;
+    run) exec 3>&1 1>&2; grep -q . || { echo "rt: the program gets no input"; exit 1; } ;;
 esac
+crate=\${PWD##*/}
 mkdir "$room/busy" || { echo "rt: two at once"; exit 1; }
 echo run >>"$room/runs"
-echo "rt: model proved (unchanged since it was last proved)"
-echo "rt: bound proved (27 s)"
+echo "crate base: modules loaded=26 checked=1"
+echo "logic=proved functions=0 sum=0"
 sleep 1
-mkdir -p target/bin target/staticlib
-[ -f "$room/fails" ] || cp "$room/printer" target/bin/plan_printer
-[ "\$1" != staticlib ] || echo archive >target/staticlib/libeskihrum.a
+mkdir -p out
 rmdir "$room/busy"
-echo "rt: plan_printer proved (8 s)"
-[ ! -f "$room/fails" ] || { echo "rt: FAILED: plan_printer"; exit 1; }
+echo "crate \$crate: modules loaded=0 checked=9"
+[ ! -f "$room/fails" ] || { echo "logic=not-proved"; echo "rattle build: nothing was built"; exit 1; }
+echo "logic=proved functions=5 axioms=3 sum=0"
+case \$1 in
+    run) cp "$room/printer" out/\$crate; echo "what the program writes" >&3 ;;
+    lib) echo archive >out/lib\$crate.a ;;
+esac
 EOF
 chmod +x "$room/with_rt/rt"
 cp TOOLCHAIN "$room/version"
@@ -90,7 +99,7 @@ says "plan: install the Rattle toolchain ($(cat TOOLCHAIN)), or take a release, 
 touch "$room/fails"
 start "$full" examples/b.plan
 is 3 "a build that fails"
-says 'rt: FAILED: plan_printer'
+says 'rattle build: nothing was built'
 says 'plan: the printer could not be built: the lines above are the end of what rt said'
 rm "$room/fails" "$room/runs"
 
@@ -106,14 +115,17 @@ is 0 "the first of two first starts"
 runs 1 "two first starts"
 cmp -s "$room/first" examples/b.listing || fail "the first of two first starts: not the listing of b"
 cp "$room/first.err" "$err"
-reached=$(awk '{ sub(/#.*/, ""); split($0, p, ":"); gsub(/ /, "", p[1]); on[p[1]] = p[2] }
+reached=$(awk '{ sub(/#.*/, ""); split($0, p, ":"); split(p[1], w, " "); on[w[1]] = p[2] }
     END { n = split("plan_printer", left, " ")
           for (i = 1; i <= n; i++) { if (!(left[i] in on) || seen[left[i]]++) continue
               of++; m = split(on[left[i]], more, " "); for (j = 1; j <= m; j++) left[++n] = more[j] }
           print of }' crates.txt)
-says "plan: 2 of $reached proved (bound, 27 s)"
-says "plan: 3 of $reached proved (plan_printer, 8 s)"
-! grep -q unchanged "$err" || fail "a crate that is unchanged needs no line"
+says "plan: 1 of $reached proved (base, "
+says "plan: $reached of $reached proved (plan_printer, "
+[ "$(grep -c ' proved (' "$err")" -eq 2 ] || fail "a crate of which rt says nothing needs no line"
+! grep -q writes "$room/first" || fail "what the program wrote while it was made is no answer"
+grep -qx 'logic=proved functions=0 sum=0' "$tree/target/log/base" || fail "no log of base"
+grep -q '^logic=proved functions=5 ' "$tree/target/log/plan_printer" || fail "no log of the printer"
 
 # Built: no toolchain is needed any more, not even with stray files that are newer.
 own=$tree/crates/plan_printer
@@ -177,6 +189,27 @@ is_locked
 is 0 "the lock while the gate runs"
 wait $!
 is 1 "a gate whose first check fails"
+
+# The gate ends as rt ci does, with its last line, and fails on edits that no longer fit. Its other checks are
+# left out of this copy.
+sed '/^step /d' .ci/run >"$tree/.ci/run"
+# ends STATUS OK-LINE LAST-LINE RT-STATUS: the gate's status where rt ci says that and ends so.
+ends() {
+    { echo "== base"; echo "$2"; echo "$3"; } >"$room/ci"
+    echo "$4" >"$room/ci_status"
+    PATH=$full "$tree/.ci/run" >"$out" 2>"$err"
+    is "$1" "the gate after: $2"
+    [ "$(tail -n 1 "$out")" = "$3" ] || fail "the gate's last line is not rt ci's"
+    [ "$(grep -cxF -e "$2" "$out")" -eq 1 ] || fail "the gate keeps a line of rt ci"
+}
+known="rt: ok; handles allowed: none; must-fail edits: 255 refused"
+ends 0 "$known; every proof and must-fail edit was done in this run" "345 passed, 0 failed" 0
+ends 0 "$known, 1 of them only by a limit; every proof" "345 passed, 0 failed" 0
+ends 1 "$known, 2 bad; every proof" "345 passed, 0 failed" 0
+ends 1 "$known, 1 of them only by a limit, 12 bad; every proof" "345 passed, 0 failed" 0
+ends 1 "rt: all is left out" "0 passed, 0 failed" 0
+ends 1 "rt: FAILED: bound" "344 passed, 1 failed" 1
+ends 2 "rt: crates.txt lists no crate" "0 passed, 1 failed" 2
 
 # make check: the gate's record, and printer and archive again after a gate that removed them.
 printf '#!/bin/sh\nrm -rf target\nmkdir target\necho "3 passed, 0 failed"\n' >"$tree/.ci/run"

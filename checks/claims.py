@@ -19,7 +19,9 @@ FRONT_CRATES = ("claims", "claims_writing", "claims_rounds", "claims_cores", "cl
 FRONTS = [ROOT / "crates" / crate / "proofs" / "FrontPage.antt" for crate in FRONT_CRATES]
 FOLDERS = "docs|crates|checks|examples|corpus|second|rust|bench|include|tools"
 LINK = re.compile(r"\[`([^`]+)`\]\(\.\./([\w/.+-]+)#L(\d+)\)")
-NAMES_IN_SPECS = re.compile(r"^use Rattle·(\w+?)(?:·specs)?\.specs\.(?:specs\.)?((?:declared\.)?\w+)", re.M)
+NAMES_IN_SPECS = re.compile(
+    r"^(?:unfoldable )?(?:pub )?use Rattle\.(\w+)\.specs\.((?:(?:declared|contracts)\.)?\w+)", re.M
+)
 
 
 def declares(line, name):
@@ -86,8 +88,9 @@ def reached():
     while waiting:
         for crate, name in NAMES_IN_SPECS.findall(waiting.pop().read_text(encoding="utf-8")):
             base = ROOT / "crates" / crate
-            declared = name.startswith("declared.")
-            file = base / "src" / "lib.rt" if declared else base / "specs" / f"{name}.antt"
+            if not base.is_dir():
+                continue  # a library of Rattle's own
+            file = base / "src" / "lib.rt" if "." in name else base / "specs" / f"{name}.antt"
             if file not in seen:
                 seen.add(file)
                 waiting += [file] if file.suffix == ".antt" else []
@@ -162,7 +165,7 @@ def functions():
         for name, contract in re.findall(r"^pub (?:extern \"C\" )?fn (\w+)[(<](.*?)^\{", text, re.M | re.S):
             if f"{crate}::{name}" not in promised:
                 yield f"docs/CLAIMS.md: no row has the promise of {crate}::{name}"
-            due = 1 if "requires {" in contract else 2
+            due = 1 if re.search(r"^\s*requires (?:\w+ )?\{", contract, re.M) else 2
             if wrong.get(f"{crate}::{name}", 0) < due:
                 yield f"docs/CLAIMS.md: {crate}::{name} has fewer than {due} edits that show a wrong answer"
 

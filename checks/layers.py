@@ -14,6 +14,8 @@ import sys
 
 ROOT = pathlib.Path(__file__).resolve().parent.parent
 LONGEST_LINE, LONGEST_FILE = 110, 300
+# what Rattle itself looks for in the files of a function's proof is public, and no other file names it
+READ_BY_RATTLE = {"Proof.antt", "Invariants.antt", "Answers.antt"}
 COMMENT = re.compile(r"--.*|//.*")
 # `use PATH.{a, b as c}`, `use PATH as name`, `use PATH`; group 1 is set where it hands names on
 USE = re.compile(r"^(pub )?(?:ghost )?use ([^\s{;]+?)(?:\.\{([^}]*)\})?(?: as ([^\s;]+))?;?$", re.M)
@@ -27,7 +29,7 @@ def crates():
         line = line.split("#")[0].strip()
         if line:
             name, _, rest = line.partition(":")
-            names[name.strip()] = rest.split()
+            names[name.split()[0]] = rest.split()
     return names
 
 
@@ -43,8 +45,8 @@ def below(names, crate):
 
 
 def named(text, is_code):
-    """The crates that a file names: Rattle·NAME in definitions and laws, NAME:: in code."""
-    found = set(re.findall(r"Rattle·(\w+?)(?:·(?:specs|proofs))?\.", text))
+    """The crates that a file names: Rattle.NAME in definitions and laws, NAME:: in code."""
+    found = set(re.findall(r"\bRattle\.(\w+)\.", text))
     if is_code:
         found |= set(re.findall(r"\b([a-z_0-9]+)::", COMMENT.sub("", text)))
     return found
@@ -52,7 +54,7 @@ def named(text, is_code):
 
 def words(text):
     """The words of a text without its comments, with and without what is attached by a dot."""
-    return re.findall(r"[^\s(){},;.⌜⌝]+", COMMENT.sub("", text))
+    return re.findall(r"[^\s(){},;.]+", COMMENT.sub("", text))
 
 
 def idle(text, is_code):
@@ -70,9 +72,8 @@ def idle(text, is_code):
             continue
         for one in filter(None, (part.strip() for part in group.split(","))):
             name = one.split(" as ")[-1].strip()
-            operator = name.startswith("_") or name.endswith("_")
-            parts = [part for part in name.split("_") if part] if operator else [name]
-            if not all(part in (body if operator else used) for part in parts):
+            # an operator's name has ◌ in the places of its operands, and may stand whole, as in `ap₂ ◌∷◌`
+            if name not in used and not all(part in used for part in name.split("◌") if part):
                 yield name
 
 
@@ -96,7 +97,7 @@ def dead(files):
     counts = {path: collections.Counter(words(text)) for path, text in files.items()}
     everywhere = sum(counts.values(), collections.Counter())
     for path, text in files.items():
-        if path.suffix != ".antt" or path.name == "Proof.antt":
+        if path.suffix != ".antt" or path.name in READ_BY_RATTLE:
             continue
         plain = COMMENT.sub("", text)
         for indent, name in declared(text):
@@ -113,7 +114,8 @@ def faults():
         allowed = below(names, crate) | {crate}
         base = ROOT / "crates" / crate
         for path in sorted(base.rglob("*")):
-            if path.suffix not in (".rt", ".antt"):
+            # out/ is what Rattle made
+            if path.suffix not in (".rt", ".antt") or path.is_relative_to(base / "out"):
                 continue
             is_code = path.suffix == ".rt"
             where, text = path.relative_to(ROOT), path.read_text(encoding="utf-8")
@@ -122,7 +124,7 @@ def faults():
             for other in sorted(named(text, is_code) & set(names) - allowed):
                 yield f"{where}: names the crate {other}, which crates.txt does not put below {crate}"
             is_spec = path.parent == base / "specs"
-            if is_spec and re.search(r"^use Rattle·\w+(·proofs)?\.proofs\.", text, re.M):
+            if is_spec and re.search(r"\bRattle\.\w+\.proofs\.", COMMENT.sub("", text)):
                 yield f"{where}: a definition names a law: move what it needs into specs/"
             for name in idle(text, is_code):
                 yield f"{where}: imports {name} and does not use it"

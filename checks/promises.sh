@@ -8,7 +8,7 @@ room=$(mktemp -d) || exit 1
 trap 'rm -rf "$room"' EXIT
 archives=${ESKIHRUM_LIB_DIR:-target/staticlib}
 [ -f "$archives/libeskihrum.a" ] || {
-    echo "promises.sh: $archives/libeskihrum.a is not there: run rt staticlib eskihrum" >&2
+    echo "promises.sh: $archives/libeskihrum.a is not there: run tools/build.sh archive" >&2
     exit 3
 }
 

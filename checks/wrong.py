@@ -15,7 +15,7 @@ fail then.
     new: TEXT              what stands there instead
 
 `old:` and `new:` may come several times, `file:` too; in a text of several lines each line end is written
-<NL>. The edit is made in a copy of the work tree, with what was built in target/. First each test has to pass
+<NL>. The edit is made in a copy of the work tree, with the products in target/. First each test has to pass
 in a copy without any edit. Exits with 1 where an edit does not fit, a wrong program is not noticed, or the
 number of them is another in docs/TRUST.md. No edit may do harm outside of its copy: the tests write to
 temporary folders of their own and to no device.
@@ -67,10 +67,16 @@ class Edit:
         return ""
 
 
-def copy_tree(to, keep_target):
-    """A copy of the work tree; what was built comes along, whole only where something is built anew."""
-    shutil.copytree(ROOT, to, symlinks=True, ignore=shutil.ignore_patterns(".git", "target"))
-    for part in ["bin", "staticlib"] + (["rlib", "stamp", "log", "obj"] if keep_target else []):
+def copy_tree(to, builds):
+    """A copy of the work tree and of what was built; where something is built anew, the libraries that rt has
+    made in the crates' out/ come along."""
+    def left_out(folder, names):
+        if os.path.basename(folder) == "out":
+            return [name for name in names if name != "rlib"]
+        return [name for name in names if name in (".git", "target") or name == "out" and not builds]
+
+    shutil.copytree(ROOT, to, symlinks=True, ignore=left_out)
+    for part in ("bin", "staticlib"):
         if (ROOT / "target" / part).is_dir():
             shutil.copytree(ROOT / "target" / part, to / "target" / part, symlinks=True)
 

@@ -1,4 +1,4 @@
-/* eskihrum.h: the planner for C and C++. Link libeskihrum.a, which `rt staticlib eskihrum` writes into
+/* eskihrum.h: the planner for C and C++. Link libeskihrum.a, which `tools/build.sh archive` puts into
  * target/staticlib. C11 or C++11, x86-64.
  *
  *     eskihrum_task tasks[] = {{1, 12, 4, 12}, {1, 24, 9, 18}};

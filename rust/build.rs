@@ -1,4 +1,4 @@
-//! Links the archive: in the folder that ESKIHRUM_LIB_DIR names, or else where `rt staticlib eskihrum` writes
+//! Links the archive: in the folder that ESKIHRUM_LIB_DIR names, or else where `tools/build.sh archive` puts
 //! it.
 
 use std::path::PathBuf;
@@ -17,7 +17,7 @@ fn main() {
     let archive = folder.join("libeskihrum.a");
     assert!(
         archive.is_file(),
-        "{} is not there: run `rt staticlib eskihrum` at the root of the repository, or let {FOLDER} name \
+        "{} is not there: run `tools/build.sh archive` at the root of the repository, or let {FOLDER} name \
          the folder that holds libeskihrum.a",
         archive.display()
     );

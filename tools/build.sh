@@ -6,8 +6,11 @@
 # What counts is what the files hold, not their dates. Beside each product stands NAME.made, with one sum over
 # all that it is made of and one over the product itself: a change of either builds it again.
 #
-# Builds and the gate take turns by a lock on the folder of the repository, which `rt ci` does not remove.
-# Whoever holds it says so to what it starts, by ESKIHRUM_LOCK=held.
+# rt makes a program by running it, once, on the crate's file stdin; what it leaves in the crate's out/ is
+# copied to target/. What rt said last of a crate while it proved it here is kept as target/log/CRATE.
+#
+# Builds and the gate take turns by a lock on the folder of the repository. Whoever holds it says so to what
+# it starts, by ESKIHRUM_LOCK=held.
 set -u
 root=$(CDPATH='' cd -- "$(dirname -- "$0")/.." && pwd -P) || exit 3
 cd -- "$root" || exit 3
@@ -15,16 +18,25 @@ cd -- "$root" || exit 3
 say() { printf 'plan: %s\n' "$*" >&2; }
 sum() { sha256sum | cut -d ' ' -f 1; }
 
-# The crates of crates.txt that CRATE stands on, and itself, a line each as it stands there.
+# The crates of crates.txt that CRATE stands on, and itself, a line each: the name, a colon, what the name's
+# line has after it. A line may have words between name and colon, as `eskihrum staticlib:`.
 reached() {
     awk -v top="$1" '
-        { sub(/#.*/, ""); split($0, part, ":"); gsub(/ /, "", part[1]); line[part[1]] = part[2] }
+        {
+            sub(/#.*/, "")
+            split($0, part, ":")
+            if (split(part[1], word, " ")) {
+                line[word[1]] = part[2]
+                sub(/^ *[^ ]+ */, "", part[1])
+                kind[word[1]] = part[1]
+            }
+        }
         function visit(name,    i, n, below) {
             if (!(name in line) || name in seen) return
             seen[name] = 1
             n = split(line[name], below, " ")
             for (i = 1; i <= n; i++) visit(below[i])
-            print name ":" line[name]
+            print name ":" line[name] (kind[name] == "" ? "" : " " kind[name])
         }
         END { visit(top) }' crates.txt
 }
@@ -44,20 +56,45 @@ sources() {
 made_of() { printf '%s %s\n' "$(sources "$1")" "$(sum <"$2")"; }
 is_there() { [ -s "$2" ] && [ -f "$2.made" ] && [ "$(cat "$2.made")" = "$(made_of "$1" "$2")" ]; }
 
-# One line for each crate that rt says it has proved; all that it says goes to a log.
+# One line for each crate that rt proves, with its place in the order in which rt builds them: of one that is
+# unchanged rt says nothing. All that rt says goes to a log, and what it says of a crate to target/log.
 progress() {
-    of=$1 log=$2 count=0
+    order=$1 log=$2 began=$(date +%s) of=0
+    # until rt names another crate, it speaks of the last one
+    for name in $order; do of=$((of + 1)); done
+    : >"$log.crate"
     while IFS= read -r line; do
         printf '%s\n' "$line" >>"$log"
+        printf '%s\n' "$line" >>"$log.crate"
         case $line in
-            "rt: "*" proved (unchanged"*) count=$((count + 1)) ;;
-            "rt: "*" proved ("*)
-                count=$((count + 1)) name=${line#rt: }
-                say "$count of $of proved (${name%% *}, ${name##*(}"
+            "crate "*": modules "*) name=${line#crate } name=${name%%:*} ;;
+            logic=*)
+                mv "$log.crate" "target/log/$name"
+                : >"$log.crate"
+                case $line in logic=proved*) ;; *) continue ;; esac
+                count=0
+                for one in $order; do
+                    count=$((count + 1))
+                    [ "$one" != "$name" ] || break
+                done
+                now=$(date +%s)
+                say "$count of $of proved ($name, $((now - began)) s)"
+                began=$now
                 ;;
         esac
     done
+    rm -f "$log.crate"
 }
+
+# What rt says of CRATE while it makes the program, or the archive.
+program() (
+    cd "crates/$1" || exit
+    rt run 2>&1 <stdin >/dev/null
+)
+archive() (
+    cd "crates/$1" || exit
+    rt lib 2>&1
+)
 
 take_lock() {
     [ -z "${ESKIHRUM_LOCK-}" ] || return 0
@@ -67,11 +104,10 @@ take_lock() {
     export ESKIHRUM_LOCK=held
 }
 
-# build NAME CRATE PRODUCT COMMAND..: a product that was not seen to be built is not trusted, so rt's note
-# that its crate is proved goes first.
+# build NAME program|archive CRATE FILE PRODUCT: FILE is what rt makes in the crate's out/. A product that was
+# not seen to be built is not trusted, so what rt made before goes first, with its note of the sources.
 build() {
-    name=$1 crate=$2 product=$3
-    shift 3
+    name=$1 how=$2 crate=$3 made=crates/$3/out/$4 product=$5
     is_there "$crate" "$product" && return 0
     if ! command -v rt >/dev/null 2>&1; then
         say "the $name is not built from these sources, and the command rt, which builds it, is not there:"
@@ -84,14 +120,16 @@ build() {
         say "the toolchain here is $(rt version), and this work was checked with $(cat TOOLCHAIN)"
     say "proving and building the $name: some minutes the first time"
     log=$(mktemp) || return 3
-    rm -f "target/stamp/$crate" "$product" "$product.made"
-    { "$@" 2>&1; echo "rt ended with $?"; } | progress "$(reached "$crate" | wc -l | tr -d ' ')" "$log"
-    if [ "$(tail -n 1 "$log")" = "rt ended with 0" ] && [ -s "$product" ]; then
+    mkdir -p target/log "${product%/*}" || return 3
+    rm -f "$made" "$made.stamp" "$product" "$product.made"
+    { "$how" "$crate"; echo "rt ended with $?"; } | progress "$(reached "$crate" | sed 's/:.*//')" "$log"
+    if [ "$(tail -n 1 "$log")" = "rt ended with 0" ] && [ -s "$made" ] && cp "$made" "$product"; then
         made_of "$crate" "$product" >"$product.made"
         rm -f "$log"
         return 0
     fi
-    tail -n 20 "$log" >&2
+    # without the counts of what rt loaded
+    grep -Ev '^(logic /|statements |library )' "$log" | tail -n 20 >&2
     rm -f "$log"
     say "the $name could not be built: the lines above are the end of what rt said"
     return 3
@@ -100,9 +138,11 @@ build() {
 [ $# -gt 0 ] || set -- printer
 for what in "$@"; do
     case $what in
-        printer) build printer plan_printer target/bin/plan_printer rt check plan_printer || exit 3 ;;
-        desk) build 'desk program' desk target/bin/desk rt check desk || exit 3 ;;
-        archive) build archive eskihrum target/staticlib/libeskihrum.a rt staticlib eskihrum || exit 3 ;;
+        printer) build printer program plan_printer plan_printer target/bin/plan_printer || exit 3 ;;
+        desk) build 'desk program' program desk desk target/bin/desk || exit 3 ;;
+        archive)
+            build archive archive eskihrum libeskihrum.a target/staticlib/libeskihrum.a || exit 3
+            ;;
         *) say "build.sh builds printer, desk and archive, not '$what'"; exit 3 ;;
     esac
 done

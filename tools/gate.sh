@@ -1,7 +1,6 @@
 #!/bin/sh
 # gate.sh: runs the gate, keeps what it wrote as target/gate.log, with the commit that it was run on in the
-# first line, and builds printer and archive again, since the gate's last command removes target/. The status
-# is the gate's.
+# first line, and sees that printer and archive are there afterwards. The status is the gate's.
 set -u
 cd -- "$(dirname -- "$0")/.." || exit 3
 log=$(mktemp) || exit 3

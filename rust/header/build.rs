@@ -1,5 +1,5 @@
 //! Compiles src/header.c, which calls every function and macro of include/eskihrum.h, and links it with the
-//! archive: in the folder that ESKIHRUM_LIB_DIR names, or else where `rt staticlib eskihrum` writes it. CC is
+//! archive: in the folder that ESKIHRUM_LIB_DIR names, or else where `tools/build.sh archive` puts it. CC is
 //! the compiler.
 
 use std::path::{Path, PathBuf};

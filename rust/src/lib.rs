@@ -40,7 +40,7 @@
 //! over to it, is trusted and tested. No function panics or keeps anything between calls. include/eskihrum.h
 //! says what a call takes of stack and time.
 //!
-//! The archive is looked for in `ESKIHRUM_LIB_DIR`, or else where `rt staticlib eskihrum` writes it, in
+//! The archive is looked for in `ESKIHRUM_LIB_DIR`, or else where `tools/build.sh archive` puts it, in
 //! target/staticlib at the root of the repository.
 
 #![no_std]

@@ -31,7 +31,8 @@ module _ {found : Checked} (t : Table) (job : Job) (room : ℕ) {d : Done} where
 -- n records of flags and bounds; what the answer says besides does not matter to them
 abbrev pub listed : ℕ → Flags → Flags → List ℕ → Done
 listed n sent last bounds =
-    finish n (given true 0 0) (records_of n (flag_in last) (changes (flag_in sent) (flag_in last)) (at bounds))
+    finish n (given true 0 0) (records_of n (flag_in last) (changes (flag_in sent) (flag_in last))
+    (at bounds))
 
 module _ (sent last : Flags) (bounds old : List ℕ) {n i : ℕ} {s s' : List ℕ} (small : n ≤ 32) (lt : i < n)
     (a : Putting (listed n sent last bounds) old i s) where

@@ -54,5 +54,6 @@ PlanAsked job text old r new = AskedAs (plan_done text job (length old / 3)) old
 -- a task has five numbers where levels holds, else four
 abbrev pub TasksAsked : Bool → Job → ℕ → ℕ → List ℕ → List ℕ → Asked → List ℕ → Type 0
 TasksAsked levels job cores policy xs old r new =
-    AskedAs (list_done cores policy (count_in levels (length xs)) (tasks_in levels xs) job (length old / 3)) old
+    AskedAs (list_done cores policy (count_in levels (length xs)) (tasks_in levels xs) job (length old / 3))
+    old
     r new

@@ -143,7 +143,8 @@ module _ (s : System) (fl : ℕ → ℕ) (k : ℕ) (legal : Legal s) (inside : k
       pub line_is : (q : ℕ) → 1 ≤ q → q ≤ s.D k - s.C k + 1
           → satisfies s fl k (q + ahead s fl k)
           ≡ ltb (sum_to (share_at rest cost reach caps (ahead s fl k) q) used) (s.cores * q)
-      line_is q pos high = line_at (λ q. sum_to (share_at rest cost reach caps (ahead s fl k) q) used) sum_is q
+      line_is q pos high = line_at (λ q. sum_to (share_at rest cost reach caps (ahead s fl k) q) used) sum_is
+          q
           pos high
 
       pub bound_by_q : bound s fl k

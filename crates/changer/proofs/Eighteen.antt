@@ -31,7 +31,8 @@ never_eighteen text old at r new p {passes} q = by_forcing (forced text).answer 
         ∙ p.answer
         ∙ ap (λ a. change_by a (written_answer (changed_table (sent_table text)) (length old) at)) says
         in
-        ((writer.eighteen_exact (changed_table (sent_table text)) (length old) at).0 (sym (by_full _ answer))).2
+        ((writer.eighteen_exact (changed_table (sent_table text)) (length old) at).0
+        (sym (by_full _ answer))).2
         (flags_levels (sent_table text) (ended (sent_table text)) s.read.legal.count s.read.levels)
     by_forcing (Stopped why k) says =
         let same : Refused (refusal 18 0) passes ≡ Refused why k =

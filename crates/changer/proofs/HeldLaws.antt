@@ -109,7 +109,8 @@ module _ {t : Table} {inverse rest cost reach : List ℕ} {h : Head} (legal : Le
           )
 
   -- forcing that accepts ends in the flags that are said
-  module _ (sent : Flags) (s : Said) (bounds : List ℕ) (e : said_done sent s bounds ≡ legal_done t Force) where
+  module _ (sent : Flags) (s : Said) (bounds : List ℕ)
+      (e : said_done sent s bounds ≡ legal_done t Force) where
     said_flags : Accepts t (said_done sent s bounds) → (i : ℕ) → i < t.n → flag_in s.flags i ≡ ended t i
     unfolding said_done
     said_flags a i lt =

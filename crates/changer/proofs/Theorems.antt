@@ -159,7 +159,8 @@ module _ (text old : List ℕ) (at e : ℕ) (new : List ℕ) (p : ChangedAs text
       (writer.cleared_same (changed_table (sent_table text)) legal.count
       (flags_zeros (sent_table text) (ended (sent_table text)) came.read.legal.count))
 
-  pub read_back_lem : read_of (between at e new) ≡ accepted (with_flags (sent_table text) (flags_in (forced text)))
+  pub read_back_lem : read_of (between at e new)
+      ≡ accepted (with_flags (sent_table text) (flags_in (forced text)))
   read_back_lem =
       read_changed
       ∙ ap accepted
@@ -171,7 +172,8 @@ module _ (text old : List ℕ) (at e : ℕ) (new : List ℕ) (p : ChangedAs text
   written_raised = writer.written_raised there.wrote
 
   -- a legal table that was written is answered as a table is
-  answered : (job : Job) → plan_done (between at e new) job 32 ≡ legal_done (changed_table (sent_table text)) job
+  answered : (job : Job) → plan_done (between at e new) job 32
+      ≡ legal_done (changed_table (sent_table text)) job
   answered job =
       sym (room_enough (changed_table (sent_table text)) job 32 legal.count
       ∙ ap (λ r. room_done r.table job 32) (sym read_changed)
@@ -213,12 +215,14 @@ module _ (text old : List ℕ) (at e : ℕ) (new : List ℕ) (p : ChangedAs text
           ∙ ap₂ (λ a x. change_by a (written_answer x (length old') at'))
           (ap (λ (d : Done). d.answer) force_back) same
           ∙ ap by_written
-          (writer.read_fits (between at e new) (changed_table (sent_table text)) (length old') at' read_changed
+          (writer.read_fits (between at e new) (changed_table (sent_table text)) (length old') at'
+          read_changed
           room)
 
       bytes : between at' (at' + length (between at e new)) new' ≡ between at e new
       bytes =
-          let second : Ended (forced (between at e new)).answer (changed_table (sent_table (between at e new)))
+          let second : Ended (forced (between at e new)).answer
+          (changed_table (sent_table (between at e new)))
           old' at' (at' + length (between at e new)) new' =
           ended_by (forced (between at e new)).answer _ _ _ _ _ (sym ends ∙ q.answer) q.bytes
           in

@@ -24,17 +24,21 @@ use Rattle.claims.specs.Cases.{same_answer, same_numbers}
 
 pub marked : T (every cases)
 unfolding
-    sum_to top_to least first_from work_in W E share block from cap share_of block_of B satisfies least_length bound
+    sum_to top_to least first_from work_in W E share block from cap share_of block_of B satisfies least_length
+    bound
     list_from test lowest lacks lacking made run force flags_of row head_fault task_fault faulty_task check_of
-    frame_fault head_line_fault front_by read_of changed test_done force_done legal_done room_done plan_done list_done
+    frame_fault head_line_fault front_by read_of changed test_done force_done legal_done room_done plan_done
+    list_done
     loaded cases every right same_answer same_numbers
 marked = tt
 
 pub wrong_marked : T (none_of wrong_cases)
 unfolding
-    sum_to top_to least first_from work_in W E share block from cap share_of block_of B satisfies least_length bound
+    sum_to top_to least first_from work_in W E share block from cap share_of block_of B satisfies least_length
+    bound
     list_from test lowest lacks lacking made run force flags_of row head_fault task_fault faulty_task check_of
-    frame_fault head_line_fault front_by read_of changed test_done force_done legal_done room_done plan_done list_done
+    frame_fault head_line_fault front_by read_of changed test_done force_done legal_done room_done plan_done
+    list_done
     loaded wrong_cases none_of right same_answer same_numbers
 wrong_marked = tt
 

@@ -120,7 +120,8 @@ pub passes_are_tests : (c : Call) (t : Table) (old : List Record) → Asks c t o
 passes_are_tests c t old s a new h o last tests = two.passes_are_tests s h
 
 pub algorithm_runs : (c : Call) (t : Table) → Sends c t
-    → (o : Outcome) × ((last : ℕ → ℕ) × ((tests : ℕ) × Algorithm2 (system_of t) (at (flags_of t)) o last tests))
+    → (o : Outcome) × ((last : ℕ → ℕ) × ((tests : ℕ)
+    × Algorithm2 (system_of t) (at (flags_of t)) o last tests))
 algorithm_runs c t = two.algorithm_runs
 
 pub accepted_is_schedulable : (c : Call) (t : Table) (old : List Record) → Asks c t old → (a : Answer)
@@ -185,7 +186,8 @@ schedule_exactly c t s new = meaning.schedule_exactly (calls.sends_legal s) (fla
 pub case_b_table : SameSystem case_b (system_of (pair_table 12 1))
 case_b_table = meaning.case_b_table
 
-pub full_asked : Asked (system_of (pair_table 12 1)) (full_release (pair_table 12 1)) (full_need (pair_table 12 1))
+pub full_asked : Asked (system_of (pair_table 12 1)) (full_release (pair_table 12 1))
+    (full_need (pair_table 12 1))
 full_asked = meaning.full_asked
 
 -- DOCUMENT 01. Under FP, with the same cores, two tables that differ only in lower-priority preemptive tasks
@@ -205,7 +207,8 @@ pub read_exactly : (text : List ℕ) (t : Table) → (read_of text ≡ accepted 
 read_exactly = lines.reading_exact
 
 -- Two accepted texts of one table have the same raised text.
-pub one_raised_text : (text other : List ℕ) (t : Table) → read_of text ≡ accepted t → read_of other ≡ accepted t
+pub one_raised_text : (text other : List ℕ) (t : Table) → read_of text ≡ accepted t
+    → read_of other ≡ accepted t
     → raised text ≡ raised other
 one_raised_text = letters.raised_only
 

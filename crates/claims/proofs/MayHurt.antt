@@ -117,8 +117,10 @@ bounds_may_rise pol claim =
 -- antt computes what is said of the two tasks
 pub shorter_helps : ShorterHelps
 unfolding
-    sum_to top_to least first_from list_from row work_in W E share block from cap share_of block_of B satisfies
-    least_length bound test lowest lacks lacking made run force flags_of changed test_done force_done legal_done
+    sum_to top_to least first_from list_from row work_in W E share block from cap share_of block_of B
+    satisfies
+    least_length bound test lowest lacks lacking made run force flags_of changed test_done force_done
+    legal_done
     loaded
 shorter_helps = record {
   refuses = λ old new a h. verdict_legal (heard_verdict h);

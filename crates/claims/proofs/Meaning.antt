@@ -93,7 +93,8 @@ case_b_table = record {
 }
 
 -- every job may need its whole C, and gaps may differ
-pub full_asked : Asked (system_of (pair_table 12 1)) (full_release (pair_table 12 1)) (full_need (pair_table 12 1))
+pub full_asked : Asked (system_of (pair_table 12 1)) (full_release (pair_table 12 1))
+    (full_need (pair_table 12 1))
 unfolding loaded
 full_asked = record {
   within = λ i j l. omega arith;

@@ -185,12 +185,14 @@ module _ {t u : Table} (before : LegalTable t) (after : LegalTable u) (all : All
       (pass k m))
 
 -- a test says yes exactly if the table passes
-test_passes : {t : Table} {a : Answer} → Verdicts t Test a → a ≡ given true 0 0 → Passes (system_of t) (sent t)
+test_passes : {t : Table} {a : Answer} → Verdicts t Test a → a ≡ given true 0 0
+    → Passes (system_of t) (sent t)
 test_passes (tested_yes pass) e = pass
 test_passes (tested_no l none) e =
     absurd (let z : ◌≡◌ {A = ℕ} 0 1 = ap (λ a. pick (values_of 0 a).yes 1 0) e in omega arith)
 
-passes_test : {t : Table} {a : Answer} → Verdicts t Test a → Passes (system_of t) (sent t) → a ≡ given true 0 0
+passes_test : {t : Table} {a : Answer} → Verdicts t Test a → Passes (system_of t) (sent t)
+    → a ≡ given true 0 0
 passes_test (tested_yes pass) _ = refl
 passes_test (tested_no {k} l none) pass = absurd (let z : ⊥ = omega (arith, pass k l) in z)
 

@@ -54,7 +54,8 @@ record Says : Type 0 where
 
 says : Says
 unfolding
-    sum_to top_to least first_from work_in W E share block from cap share_of block_of B satisfies least_length bound
+    sum_to top_to least first_from work_in W E share block from cap share_of block_of B satisfies least_length
+    bound
     list_from test lowest lacks lacking made run force flags_of row head_fault task_fault faulty_task check_of
     changed force_done legal_done room_done list_done loaded
 says = record {

@@ -62,7 +62,8 @@ refuses_of u = go (failing u (final u).bounds) _ refl
     go (suc k) d y h = (suc k, ((final u).passes, refl))
 
 -- what forcing answers to a call that sends the table on m cores
-done_on : {c' : Call} {u : Table} → Sends c' u → (room : ℕ) → u.n ≤ room → done_of c' Force room ≡ force_done u
+done_on : {c' : Call} {u : Table} → Sends c' u → (room : ℕ) → u.n ≤ room
+    → done_of c' Force room ≡ force_done u
 done_on {u = u} s room fits =
     sends_done s Force room ∙ sym (room_enough u Force room fits) ∙ sym (forces_table u Force refl)
 

@@ -102,7 +102,8 @@ edf_alike {c} {c'} {t} {u} s s' edf but job old {a} {b} {new} {new'} h h' =
 -- the cases, computed
 pub levels_marked : T (every level_cases)
 unfolding
-    sum_to top_to least first_from work_in W E share block from cap share_of block_of B satisfies least_length bound
+    sum_to top_to least first_from work_in W E share block from cap share_of block_of B satisfies least_length
+    bound
     list_from test lowest lacks lacking made run force flags_of row head_fault task_fault faulty_task check_of
     changed test_done force_done legal_done room_done list_done loaded level_cases every right same_answer
     same_numbers

@@ -121,7 +121,8 @@ changed_upper = changer.written_raised
 
 -- It refuses as forcing does, with its passes, and writes nothing.
 pub changed_refused : (text old : List ℕ) (start : ℕ) (r : Changed) (new : List ℕ)
-    → ChangedAs text old start r new → (why : Refusal) (passes : ℕ) → (forced text).answer ≡ Stopped why passes
+    → ChangedAs text old start r new → (why : Refusal) (passes : ℕ)
+    → (forced text).answer ≡ Stopped why passes
     → (r ≡ Stops why passes) × (new ≡ old)
 changed_refused text old start r new w why passes = changer.refused_forcing text old start r new w
 

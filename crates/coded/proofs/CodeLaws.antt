@@ -142,7 +142,8 @@ pub part_refused : (job cores policy : ℕ) (xs old : List ℕ) (r : ℕ) (new :
 part_refused job cores policy xs old r new h part =
     let w : (f : ℕ) × ((p : ℕ) × TableWrong (table_in false cores policy xs) f p) =
     part_faulty false cores policy xs part in
-    let e : list_done cores policy (count_in false (length xs)) (tasks_in false xs) (job_of job) (length old / 3)
+    let e : list_done cores policy (count_in false (length xs)) (tasks_in false xs) (job_of job)
+    (length old / 3)
     ≡ refuse (refusal w.0 w.1.0) 0 =
     list_refused cores policy (count_in false (length xs)) (tasks_in false xs) (job_of job) (length old / 3)
     w.1.1 in

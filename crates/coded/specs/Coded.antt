@@ -40,5 +40,6 @@ PlanCoded job text old r new = Coded (plan_done text (job_of job) (length old / 
 -- and of code_tasks and eskihrum_tasks: four numbers to a task, with its place as level
 abbrev pub TasksCoded : ℕ → ℕ → ℕ → List ℕ → List ℕ → ℕ → List ℕ → Type 0
 TasksCoded job cores policy xs old r new =
-    Coded (list_done cores policy (count_in false (length xs)) (tasks_in false xs) (job_of job) (length old / 3))
+    Coded (list_done cores policy (count_in false (length xs)) (tasks_in false xs) (job_of job)
+    (length old / 3))
     old r new

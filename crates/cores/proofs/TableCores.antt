@@ -27,7 +27,8 @@ yes_force : (t : Table) → says_yes (force_done t) ≡ true → failing t (fina
 unfolding force_done
 yes_force t = go (failing t (final t).bounds) _
   where
-    go : (x : ℕ) (d : Done) → says_yes (or_else x d (λ k. refuse (refusal 14 (suc k)) (final t).passes)) ≡ true
+    go : (x : ℕ) (d : Done) → says_yes (or_else x d (λ k. refuse (refusal 14 (suc k)) (final t).passes))
+        ≡ true
         → x ≡ 0
     go zero d h = refl
     go (suc k) d h = cc

@@ -16,7 +16,8 @@ use Rattle.easier.proofs.EdfLaws.{edf_exactly}
 legal_flags : {t : Table} → LegalTable t → Flags (system_of t) (at (flags_of t))
 legal_flags {t} h i lt = omega (arith, flags_at t i lt, (h.each i lt).flag)
 
-eased_system : (t u : Table) (e : ℕ → ℕ) → LegalTable u → EasedTable t u e → Eased (system_of t) (system_of u) e
+eased_system : (t u : Table) (e : ℕ → ℕ) → LegalTable u → EasedTable t u e
+    → Eased (system_of t) (system_of u) e
 eased_system t u e h a = record {
   policy = ap policy_of a.policy;
   cores = a.cores;
@@ -38,7 +39,8 @@ table_eased t u e before after a =
 
 pub table_shortened : TableShortened
 table_shortened t u before r less given ok =
-    deadlines_shorter (system_of t) (system_of u) (flags_of t) (flags_of u) (legal_system before) (λ i _. refl)
+    deadlines_shorter (system_of t) (system_of u) (flags_of t) (flags_of u) (legal_system before)
+    (λ i _. refl)
     (legal_flags before)
     (record {
       policy = ap policy_of r.policy;

@@ -48,5 +48,6 @@ PlanToldIn e job text old told x new told' =
 abbrev pub TasksToldIn :
     Bool → Edition → Job → ℕ → ℕ → List ℕ → List ℕ → List ℕ → ℕ → List ℕ → List ℕ → Type 0
 TasksToldIn levels e job cores policy xs old told x new told' =
-    ToldIn (list_in e cores policy (count_in levels (length xs)) (tasks_in levels xs) job (length old / 3)) old
+    ToldIn (list_in e cores policy (count_in levels (length xs)) (tasks_in levels xs) job (length old / 3))
+    old
     told x new told'

@@ -36,7 +36,8 @@ module _ (text : List ℕ) (job : Job) (room : ℕ) where
   unfolding plan_in
   plan_first = refl
 
-  pub plan_by_first : {e : Edition} → e ≡ First → unrounded (plan_done text job room) ≡ plan_in e text job room
+  pub plan_by_first : {e : Edition} → e ≡ First
+      → unrounded (plan_done text job room) ≡ plan_in e text job room
   unfolding plan_in
   plan_by_first is = rw is
 

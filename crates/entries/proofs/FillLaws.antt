@@ -1,7 +1,8 @@
 -- A list whose first i places are filled from another: what it is after one store more. And that an answer's
 -- records fit.
 -- Assumes nothing.
-use Rattle.std.proofs.Common.{◌≡◌, sym, ◌∙◌, ap, subst, refl, ◌≤◌, List, ◌++◌, ℕ, suc, ◌+◌, ◌<◌, le_of_lt, add-one}
+use Rattle.std.proofs.Common.{◌≡◌, sym, ◌∙◌, ap, subst, refl, ◌≤◌, List, ◌++◌, ℕ, suc, ◌+◌, ◌<◌, le_of_lt}
+use Rattle.std.proofs.Common.{add-one}
 use Rattle.std.proofs.Common.{min, length, take, drop, set, get_or, replicate}
 use Rattle.std.proofs.Common.{length-take-le, drop-cons, take-suc}
 use Rattle.std.proofs.Math.Seq.{set_at, append_snoc}

@@ -43,7 +43,8 @@ pub eskihrum_flat_test_levels_2_only : (κs : Lfts 3) (a : Dens κs test-levels-
 eskihrum_flat_test_levels_2_only κs a x y s s' p q = told-in-only _ _ _ p q
 
 pub eskihrum_flat_force_levels_2_only : (κs : Lfts 3) (a : Dens κs force-levels-2.ps)
-    (x y : (res_t force-levels-2.r κs).Denot) (s s' : AtExit (ended_of 3 force-levels-2.ps force-levels-2.r) κs)
+    (x y : (res_t force-levels-2.r κs).Denot)
+    (s s' : AtExit (ended_of 3 force-levels-2.ps force-levels-2.r) κs)
     → force-levels-2-reads.Post κs a x s → force-levels-2-reads.Post κs a y s'
     → (x ≡ y) × (s.1.1.1.0.now ≡ s'.1.1.1.0.now)
     × (s.1.1.1.1.0.now ≡ s'.1.1.1.1.0.now)

@@ -31,5 +31,6 @@ PlanFewestTold text old told r new told' =
 -- eskihrum_flat_fewest_tasks with four, and of eskihrum_flat_fewest_levels with five
 abbrev pub TasksFewestTold : Bool → ℕ → ℕ → List ℕ → List ℕ → List ℕ → ℕ → List ℕ → List ℕ → Type 0
 TasksFewestTold levels cores policy xs old told r new told' =
-    FewestTold (list_fewest cores policy (count_in levels (length xs)) (tasks_in levels xs) (length old / 3)) old
+    FewestTold (list_fewest cores policy (count_in levels (length xs)) (tasks_in levels xs) (length old / 3))
+    old
     told r new told'

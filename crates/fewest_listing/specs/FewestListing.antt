@@ -51,5 +51,6 @@ Ready t f out = LegalTable t × (f ≡ legal_fewest t) × (fewest_room ≤ lengt
 pub record FewestListed (text old : List ℕ) (r : ℕ) (new : List ℕ) : Type 0 where
   pub answer : r ≡ pick (ltb (length old) fewest_room) 0 (length (fewest_listing text))
   pub bytes : new
-      ≡ pick (ltb (length old) fewest_room) old (fewest_listing text ++ drop (length (fewest_listing text)) old)
+      ≡ pick (ltb (length old) fewest_room) old
+      (fewest_listing text ++ drop (length (fewest_listing text)) old)
   pub within : r ≤ length new

@@ -213,7 +213,8 @@ module _ (f b : ℕ → ℕ) (n : ℕ) (small : n ≤ 32) where
 -- two tables of flags, both held
 pub changed_held : (f g : ℕ → ℕ) (n : ℕ) → n ≤ 32 → ((i : ℕ) → i < n → f i ≤ 1)
     → ((i : ℕ) → i < n → g i ≤ 1)
-    → sum_to (λ i. changed (flag_in (held f n) i) (flag_in (held g n) i)) 32 ≡ sum_to (λ i. changed (f i) (g i)) n
+    → sum_to (λ i. changed (flag_in (held f n) i) (flag_in (held g n) i)) 32
+    ≡ sum_to (λ i. changed (f i) (g i)) n
 changed_held f g n small one also =
     sum_to_last _ n small
     (λ i le h. ap₂ changed (held_past f n i le h) (held_past g n i le h) ∙ sym (same_unchanged 1 1 refl))

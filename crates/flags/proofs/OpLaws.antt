@@ -151,7 +151,8 @@ module _ (g : ℕ) where
       ne_eqb (1 - bit g j) 0
       (λ z. omega (arith, z, ap (λ x. bit x j) e, bit_past 0 0 j (omega arith) (omega arith)))))
 
-  pub lowest_word : (g ≡ 0 → ⊥) → g < 2 ^ 32 → count_trailing_zeros 32 g + 1 ≡ first_of (λ i. eqb (clear g i) 0) 32
+  pub lowest_word : (g ≡ 0 → ⊥) → g < 2 ^ 32 → count_trailing_zeros 32 g + 1
+      ≡ first_of (λ i. eqb (clear g i) 0) 32
   unfolding clear
   lowest_word some small =
       let a : LowestBit g 32 (count_trailing_zeros 32 g) = trailing_lowest 32 g (omega arith) small in

@@ -121,7 +121,8 @@ module _ (s : System) (few : s.count ≤ 32) where
     lack_none = (
       λ e. sym lack_sum ∙ set_none (bit_and g ((2 ^ 32 - 1) - w)) e,
       λ e.
-          none_set (bit_and g ((2 ^ 32 - 1) - w)) (and_lt 32 g ((2 ^ 32 - 1) - w) (wide (at bs)) (omega arith))
+          none_set (bit_and g ((2 ^ 32 - 1) - w))
+          (and_lt 32 g ((2 ^ 32 - 1) - w) (wide (at bs)) (omega arith))
           (lack_sum ∙ e),
     )
 

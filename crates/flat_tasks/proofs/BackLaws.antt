@@ -33,7 +33,8 @@ four_times x n e = rw (eq-eqb (x % 4) 0 (let w : x % 4 ≡ 0 = omega arith in w)
 five_times : (x n : ℕ) → x ≡ 5 * n → count_by 5 x ≡ n
 five_times x n e = rw (eq-eqb (x % 5) 0 (let w : x % 5 ≡ 0 = omega arith in w)) (omega arith)
 
-pub count_flat : (levels : Bool) (ts : List Task) → count_in levels (length (flat_tasks levels ts)) ≡ length ts
+pub count_flat : (levels : Bool) (ts : List Task)
+    → count_in levels (length (flat_tasks levels ts)) ≡ length ts
 unfolding count_in
 count_flat true ts = five_times (length (flat_tasks true ts)) (length ts) (fives_long ts)
 count_flat false ts = four_times (length (flat_tasks false ts)) (length ts) (fours_long ts)

@@ -64,7 +64,8 @@ module _ (level lack : ℕ → ℕ) where
   unfolding below_of
   below_edf n e = rw e refl
 
-  pub below_fp : {p : ℕ} (n : ℕ) {r : ℕ} → (p ≡ 0 → ⊥) → r ≡ deepest level lack n → r ≡ below_of p level lack n
+  pub below_fp : {p : ℕ} (n : ℕ) {r : ℕ} → (p ≡ 0 → ⊥) → r ≡ deepest level lack n
+      → r ≡ below_of p level lack n
   unfolding below_of
   below_fp {p = zero} n some is = absurd (some refl)
   below_fp {p = suc p} n some is = is

@@ -83,7 +83,8 @@ module _ {s frame : List ℕ} {size : ℕ} {s' : List ℕ} {at sum i : ℕ}
   }
 
   -- after one byte more there is room for the 0A
-  pub lining_last : (b : ℕ) {s'' : List ℕ} {end : ℕ} → Put s' at (bytes_text (b ∷ [])) end s'' → end < length s''
+  pub lining_last : (b : ℕ) {s'' : List ℕ} {end : ℕ} → Put s' at (bytes_text (b ∷ [])) end s''
+      → end < length s''
   lining_last b p = omega (arith, p.next, put_length p, lining_room, text_length (b ∷ []))
 
   pub lining_small : (b : ℕ) {s'' : List ℕ} {end : ℕ} → Put s' at (bytes_text (b ∷ [])) end s'' → end ≤ 34

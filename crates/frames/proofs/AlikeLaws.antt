@@ -28,7 +28,8 @@ pub drop_alike : {n : ℕ} {a b : List ℕ} (k m : ℕ) → ReadAlike n a b → 
     → ReadAlike m (drop k a) (drop k b)
 drop_alike {n} {a} {b} k m s fits = record {
   digit = λ i h.
-      ap digit_of (get_or-drop k a i 0) ∙ s.digit (k + i) (omega arith) ∙ ap digit_of (sym (get_or-drop k b i 0));
+      ap digit_of (get_or-drop k a i 0) ∙ s.digit (k + i) (omega arith) ∙ ap digit_of
+      (sym (get_or-drop k b i 0));
   line_end = λ i h.
       ap (λ x. eqb x 10) (get_or-drop k a i 0)
       ∙ s.line_end (k + i) (omega arith)

@@ -17,7 +17,8 @@ module _ (s : List ℕ) (size kind : ℕ) where
   unfolding frame_fault
   digits_fault long e = rw (lt-leb (length s) (2 * size) long, e)
 
-  end_fault : 2 * size < length s → (t : Bool) → all_digits s (2 * size) ≡ t → (get_or s (2 * size) 0 ≡ 10 → ⊥)
+  end_fault : 2 * size < length s → (t : Bool) → all_digits s (2 * size) ≡ t
+      → (get_or s (2 * size) 0 ≡ 10 → ⊥)
       → frame_fault s size kind ≡ 2
   unfolding frame_fault
   end_fault long true e n = rw (lt-leb (length s) (2 * size) long, e, ne_eqb (get_or s (2 * size) 0) 10 n)

@@ -56,7 +56,8 @@ text_digits (b ∷ bs) r h zero l = omega (arith, digit_there (b / 16) (omega (a
 text_digits (b ∷ bs) r h (suc zero) l = omega (arith, digit_there (b % 16) (omega arith))
 text_digits (b ∷ bs) r h (suc (suc i)) l = text_digits bs r h.1 i (omega arith)
 
-text_byte : (bs r : List ℕ) → Bytes bs → (i : ℕ) → i < length bs → byte_at (bytes_text bs ++ r) i ≡ get_or bs i 0
+text_byte : (bs r : List ℕ) → Bytes bs → (i : ℕ) → i < length bs
+    → byte_at (bytes_text bs ++ r) i ≡ get_or bs i 0
 unfolding bytes_text
 text_byte [] r h i l = absurd (let z : ⊥ = omega arith in z)
 text_byte (b ∷ bs) r h zero l = byte_there b (bytes_text bs ++ r) h.0

@@ -29,4 +29,5 @@ pub data FrameWrong (s : List ℕ) (size kind : ℕ) : ℕ → Type 0 where
   no_digit : 2 * size < length s → (i : ℕ) → i < 2 * size → digit_at s i ≡ 255 → FrameWrong s size kind 2
   no_end : 2 * size < length s → (get_or s (2 * size) 0 ≡ 10 → ⊥) → FrameWrong s size kind 2
   no_sum : WholeLine s size → (frame_sum s size % 256 ≡ 0 → ⊥) → FrameWrong s size kind 3
-  no_kind : WholeLine s size → frame_sum s size % 256 ≡ 0 → (byte_at s 0 ≡ kind → ⊥) → FrameWrong s size kind 4
+  no_kind : WholeLine s size → frame_sum s size % 256 ≡ 0 → (byte_at s 0 ≡ kind → ⊥)
+      → FrameWrong s size kind 4

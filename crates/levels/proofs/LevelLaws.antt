@@ -40,10 +40,12 @@ placed_same t p = record {
 
 -- PLACES AS LEVELS IS DOCUMENT 01'S TEST.
 pub places_as_levels : (t : Table) → LegalTable t → PlaceLevels t → SameTests (by_places t) (system_of t)
-places_as_levels t legal p = same_tests (by_places t) (system_of t) (placed_same t p) (legal_system legal).time
+places_as_levels t legal p = same_tests (by_places t) (system_of t) (placed_same t p)
+    (legal_system legal).time
 
 -- and every table from the old lines has its places as levels
-pub lines_as_levels : (s : List ℕ) (t : Table) → read_of s ≡ accepted t → SameTests (by_places t) (system_of t)
+pub lines_as_levels : (s : List ℕ) (t : Table) → read_of s ≡ accepted t
+    → SameTests (by_places t) (system_of t)
 lines_as_levels s t e =
     let w = (reading_exact s t).0 e in
     places_as_levels t w.legal w.levels

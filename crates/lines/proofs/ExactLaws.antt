@@ -63,7 +63,8 @@ plan_text_length t = up_to_length t t.n
 
 record Split (ts : List Task) (n i : ℕ) : Type 0 where
   pub rest : List ℕ
-  pub same : tasks_text form1 ts n ≡ tasks_text form1 ts i ++ (line_text (task_bytes form1 (task_at ts i)) ++ rest)
+  pub same : tasks_text form1 ts n ≡ tasks_text form1 ts i ++
+      (line_text (task_bytes form1 (task_at ts i)) ++ rest)
 
 split : (ts : List Task) (n i : ℕ) → i < n → Split ts n i
 unfolding tasks_text
@@ -74,7 +75,8 @@ split ts (suc n) i l =
       rest = [];
       same =
           ap (λ k. tasks_text form1 ts k ++ line_text (task_bytes form1 (task_at ts k))) (sym e)
-          ∙ ap (λ x. tasks_text form1 ts i ++ x) (sym (append-nil (line_text (task_bytes form1 (task_at ts i)))));
+          ∙ ap (λ x. tasks_text form1 ts i ++ x)
+          (sym (append-nil (line_text (task_bytes form1 (task_at ts i)))));
     })
     (λ (less : i < n).
     let w : Split ts n i = split ts n i less in

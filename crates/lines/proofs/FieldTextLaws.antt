@@ -88,7 +88,8 @@ module _ (t : Table) (rest : List ℕ) (legal : LegalHead t) where
   head_line_there = line_there (head_bytes form1 t) rest head_all 5 1 refl (omega arith) refl
 
   head_field : (i : ℕ) → i < 3
-      → byte_at (fields_part (line_text (head_bytes form1 t) ++ rest)) i ≡ get_or (head_bytes form1 t) (i + 1) 0
+      → byte_at (fields_part (line_text (head_bytes form1 t) ++ rest)) i
+      ≡ get_or (head_bytes form1 t) (i + 1) 0
   unfolding head_bytes
   head_field i l = sym (byte_next _ i) ∙ line_byte (head_bytes form1 t) rest head_all (i + 1) (omega arith)
 
@@ -116,7 +117,8 @@ module _ (t : Task) (rest : List ℕ) (legal : LegalTask t) where
   task_line_there = line_there (task_bytes form1 t) rest task_all 15 2 refl (omega arith) refl
 
   task_field : (i : ℕ) → i < 13
-      → byte_at (fields_part (line_text (task_bytes form1 t) ++ rest)) i ≡ get_or (task_bytes form1 t) (i + 1) 0
+      → byte_at (fields_part (line_text (task_bytes form1 t) ++ rest)) i
+      ≡ get_or (task_bytes form1 t) (i + 1) 0
   unfolding task_bytes word_bytes
   task_field i l = sym (byte_next _ i) ∙ line_byte (task_bytes form1 t) rest task_all (i + 1) (omega arith)
 

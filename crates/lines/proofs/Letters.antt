@@ -46,7 +46,8 @@ pub raised_only : (s u : List ℕ) (t : Table) → read_of s ≡ accepted t → 
     → raised s ≡ raised u
 raised_only s u t p q = ((reading_exact s t).0 p).same ∙ sym ((reading_exact u t).0 q).same
 
-pub text_raised : (t : Table) → LegalTable t → ZerosPast t → PlaceLevels t → raised (plan_text t) ≡ plan_text t
+pub text_raised : (t : Table) → LegalTable t → ZerosPast t → PlaceLevels t
+    → raised (plan_text t) ≡ plan_text t
 text_raised t legal zeros levels =
     ((reading_exact (plan_text t) t).0 (text_accepted t legal zeros levels)).same
 
@@ -54,7 +55,8 @@ pub head_two : (s : List ℕ) (i : ℕ) → i < 10 → 10 < length s → digit_a
 head_two s i l long e = wrong_refused (in_front (head_frame (no_digit long i l e)))
 
 pub task_two : (s : List ℕ) (k i : ℕ) → RightUpTo form1 s k → k < text_count s → i < 30
-    → 30 < length (task_text form1 s k) → digit_at (task_text form1 s k) i ≡ 255 → read_of s ≡ refused 2 (k + 2)
+    → 30 < length (task_text form1 s k) → digit_at (task_text form1 s k) i ≡ 255
+    → read_of s ≡ refused 2 (k + 2)
 task_two s k i up l m long e = wrong_refused (in_front (task_frame k up l (no_digit long i m e)))
 
 -- document 01's plan in mixed case: fB, 0c, 0C, e1, cA

@@ -46,11 +46,13 @@ module _ (f : Form) (s : List ℕ) where
   unfolding head_line_fault
   head_fields_fault x right e = fault_after (head_frame_fault f s) _ right ∙ sym e
 
-  pub task_frame_fault_lem : (level x : ℕ) → x ≡ task_frame_fault f s → (x ≡ 0 → ⊥) → task_line_fault f level s ≡ x
+  pub task_frame_fault_lem : (level x : ℕ) → x ≡ task_frame_fault f s → (x ≡ 0 → ⊥)
+      → task_line_fault f level s ≡ x
   unfolding task_line_fault
   task_frame_fault_lem level x e some = rw (← e) (fault_here x _ some)
 
-  pub task_fields_fault : (level x : ℕ) → task_frame_fault f s ≡ 0 → x ≡ task_fault (task_of level (fields_part s))
+  pub task_fields_fault : (level x : ℕ) → task_frame_fault f s ≡ 0
+      → x ≡ task_fault (task_of level (fields_part s))
       → task_line_fault f level s ≡ x
   unfolding task_line_fault
   task_fields_fault level x right e = fault_after (task_frame_fault f s) _ right ∙ sym e
@@ -106,7 +108,8 @@ module _ (t : Task) where
   right_answer (suc x) r e = absurd (let z : ◌≡◌ {A = ℕ} 0 1 = cc in omega arith)
 
 -- a head line whose frame is right answers its numbers, or the fault of its fields
-module _ (f : Form) (s : List ℕ) (h : Head) (right : head_frame_fault f s ≡ 0) (e : h ≡ numbers_of (text_head s))
+module _ (f : Form) (s : List ℕ) (h : Head) (right : head_frame_fault f s ≡ 0)
+    (e : h ≡ numbers_of (text_head s))
   where
     fields_fault : (x : ℕ) → x ≡ head_fault_of (empty_table h) → head_line_fault f s ≡ x
     fields_fault x g = head_fields_fault f s x right (g ∙ ap (λ n. head_fault_of (empty_table n)) e)

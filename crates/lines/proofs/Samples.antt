@@ -31,7 +31,8 @@ sample_text =
     48 ∷ 57 ∷ 48 ∷ 48 ∷ 48 ∷ 48 ∷ 48 ∷ 48 ∷ 49 ∷ 50 ∷ 67 ∷ 65 ∷ 10 ∷ []
 
 pub sample_written : plan_text sample ≡ sample_text
-unfolding text_by tasks_text head_bytes task_bytes word_bytes line_text bytes_text check_byte bytes_sum digit_text
+unfolding text_by tasks_text head_bytes task_bytes word_bytes line_text bytes_text check_byte bytes_sum
+    digit_text
 sample_written = refl
 
 pub empty_refused : read_of [] ≡ refused 1 1

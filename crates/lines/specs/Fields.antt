@@ -2,7 +2,8 @@
 --
 --   document 01                                              here
 --   the part after the kind byte                             fields_part s
---   cores, policy, n                                         head_of p: a table with no task yet; numbers_of t
+--   cores, policy, n                                         head_of p: a table with no task yet; numbers_of
+-- t
 --                                                            alone, and empty_table h with no task again
 --   flag, T, C, D (4 bytes each); the place is the level     task_of level p
 --   1, 2, 3, 4 of the due line's frame                       head_frame_fault f s, task_frame_fault f s
@@ -31,7 +32,12 @@ abbrev pub fields_part : List ℕ → List ℕ
 fields_part s = drop 2 s
 
 unfoldable pub head_of : List ℕ → Table
-head_of p = record { cores = byte_at p 0; policy = byte_at p 1; n = byte_at p 2; tasks = replicate 32 no_task }
+head_of p = record {
+  cores = byte_at p 0;
+  policy = byte_at p 1;
+  n = byte_at p 2;
+  tasks = replicate 32 no_task;
+}
 
 abbrev pub numbers_of : Table → Head
 numbers_of t = record { cores = t.cores; policy = t.policy; n = t.n }

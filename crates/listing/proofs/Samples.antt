@@ -42,13 +42,17 @@ pub example : listing_of
     ≡ word "plan FP cores 1 tasks 2\n"
     ++ (word "task 1 N forced bound 12 deadline 12 load 334\n"
     ++ (word "task 2 N forced bound 17 deadline 18 load 375\n" ++ word "total load 709 forced 2 passes 3\n"))
-unfolding sum_to top_to least first_from work_in W E share block from cap share_of block_of B satisfies least_length
-    bound list_from test lowest lacks lacking made run force flags_of row head_fault task_fault digit_of byte_at
-    word_at all_digits frame_fault head_of task_of line_start head_line_fault task_line_fault with_tasks wrong_task
+unfolding sum_to top_to least first_from work_in W E share block from cap share_of block_of B satisfies
+    least_length
+    bound list_from test lowest lacks lacking made run force flags_of row head_fault task_fault digit_of
+    byte_at
+    word_at all_digits frame_fault head_of task_of line_start head_line_fault task_line_fault with_tasks
+    wrong_task
     tasks_read front_by read_of changed force_done legal_done room_done plan_done digits decimal load line_one
     task_start task_line_text last_line total_load lines_to accepted_text listing_of
 example = refl
 
 pub empty : listing_of [] ≡ word "refused 1 place 1\n"
-unfolding listing_of plan_done read_of front_by head_line_fault frame_fault of_forcing refusal_line decimal digits
+unfolding listing_of plan_done read_of front_by head_line_fault frame_fault of_forcing refusal_line decimal
+    digits
 empty = refl

@@ -79,8 +79,10 @@ eased policy cores count tasks = record {
 -- at place 2. FP, one core: (2,1,1,N) (2,1,2,P) is accepted, with D = 2 for task 1 refused at place 2.
 pub longer_refused : (p : Policy) → LongerKeeps p → ⊥
 unfolding
-    sum_to top_to least first_from list_from row work_in W E share block from cap share_of block_of B satisfies
-    least_length bound test lowest lacks lacking made run force flags_of head_fault task_fault faulty_task check_of
+    sum_to top_to least first_from list_from row work_in W E share block from cap share_of block_of B
+    satisfies
+    least_length bound test lowest lacks lacking made run force flags_of head_fault task_fault faulty_task
+    check_of
 longer_refused EDF claim =
     let t : Table = table_of EDF 1 (task 6 1 5 1 1 ∷ task 7 1 6 1 2 ∷ task 5 3 5 0 3 ∷ []) in
     let u : Table = table_of EDF 1 (task 6 1 5 1 1 ∷ task 7 1 7 1 2 ∷ task 5 3 5 0 3 ∷ []) in
@@ -102,8 +104,10 @@ longer_refused FP claim =
 -- 1. FP: document 01's table g is accepted, and i, with D = 19 for task 3, is refused at place 2.
 pub shorter_refused : (p : Policy) → ShorterKeeps p → ⊥
 unfolding
-    sum_to top_to least first_from list_from row work_in W E share block from cap share_of block_of B satisfies
-    least_length bound test lowest lacks lacking made run force flags_of head_fault task_fault faulty_task check_of
+    sum_to top_to least first_from list_from row work_in W E share block from cap share_of block_of B
+    satisfies
+    least_length bound test lowest lacks lacking made run force flags_of head_fault task_fault faulty_task
+    check_of
 shorter_refused EDF claim =
     let t : Table = table_of EDF 1 (task 2 1 2 1 1 ∷ task 2 1 2 1 2 ∷ []) in
     let u : Table = table_of EDF 1 (task 2 1 1 1 1 ∷ task 2 1 2 1 2 ∷ []) in
@@ -125,8 +129,10 @@ shorter_refused FP claim =
 -- FP, one core: (7,1,4,P) (3,1,3,P) (5,2,5,P) takes 3, and 4 with T = 9 and 7 for tasks 1 and 3.
 pub passes_rise : (p : Policy) → PassesFall p → ⊥
 unfolding
-    sum_to top_to least first_from list_from row work_in W E share block from cap share_of block_of B satisfies
-    least_length bound test lowest lacks lacking made run force flags_of head_fault task_fault faulty_task check_of
+    sum_to top_to least first_from list_from row work_in W E share block from cap share_of block_of B
+    satisfies
+    least_length bound test lowest lacks lacking made run force flags_of head_fault task_fault faulty_task
+    check_of
 passes_rise EDF claim =
     let t : Table = table_of EDF 2 (task 5 4 5 1 1 ∷ task 3 1 3 0 2 ∷ task 3 1 2 1 3 ∷ []) in
     let u : Table = table_of EDF 2 (task 7 4 5 1 1 ∷ task 3 1 3 0 2 ∷ task 5 1 2 1 3 ∷ []) in
@@ -159,8 +165,10 @@ passes_rise FP claim =
 -- (2,1,2,P) (4,1,4,N) task 1 is forced, with bound 1; with T = 6 for task 2 it is not, with bound 2.
 pub bounds_rise : (p : Policy) → BoundsFall p → ⊥
 unfolding
-    sum_to top_to least first_from list_from row work_in W E share block from cap share_of block_of B satisfies
-    least_length bound test lowest lacks lacking made run force flags_of head_fault task_fault faulty_task check_of
+    sum_to top_to least first_from list_from row work_in W E share block from cap share_of block_of B
+    satisfies
+    least_length bound test lowest lacks lacking made run force flags_of head_fault task_fault faulty_task
+    check_of
 bounds_rise EDF claim =
     let t : Table = table_of EDF 1 (task 5 2 5 0 1 ∷ task 5 2 5 1 2 ∷ []) in
     let u : Table = table_of EDF 1 (task 5 2 5 0 1 ∷ task 7 1 5 1 2 ∷ []) in
@@ -201,13 +209,15 @@ pair_5_legal = fine_legal refl
 
 pair_places : (place_of (pair 4) ≡ 1) × (place_of (pair 5) ≡ 1)
 unfolding
-    sum_to top_to least first_from list_from row work_in W E share block from cap share_of block_of B satisfies
+    sum_to top_to least first_from list_from row work_in W E share block from cap share_of block_of B
+    satisfies
     least_length bound test lowest lacks lacking made run force flags_of
 pair_places = (refl, refl)
 
 pair_3_passes : Passes (system_of (pair 3)) (at (flags_of (pair 3)))
 unfolding
-    sum_to top_to least list_from row work_in W E share block from cap share_of block_of B satisfies least_length
+    sum_to top_to least list_from row work_in W E share block from cap share_of block_of B satisfies
+    least_length
     bound flags_of
 pair_3_passes =
     two (λ k. 0 < bound (system_of (pair 3)) (at (flags_of (pair 3))) k) (omega arith) (omega arith)

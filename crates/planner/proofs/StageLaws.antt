@@ -117,7 +117,8 @@ module _ {t : Table} (legal : LegalTable t) {sent_flags : Flags}
           ap (λ n. finish n (given (eqb k 0) 0 0) recs) is_rows.n
           ∙ ap₂ (λ x rs. finish t.n (given (eqb x 0) 0 0) rs) failing_in
           (listed
-          ∙ ap (λ n. records_of n (flag_in sent_flags) (changes (flag_in sent_flags) (flag_in sent_flags)) (at bs))
+          ∙ ap (λ n. records_of n (flag_in sent_flags) (changes (flag_in sent_flags) (flag_in sent_flags))
+          (at bs))
           is_rows.n
           ∙ records_same t.n (flag_in sent_flags) (sent t) _ (λ _. 0) (at bs) (at bs') legal.count
           sent_in (λ j lt. sym (same_unchanged _ _ refl)) agree)

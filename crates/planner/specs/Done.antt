@@ -7,7 +7,8 @@
 --   a legal table is answered                          legal_done
 --   13 before any test                                 room_done: roomed
 --   a plan: the reading's refusal, or its table        plan_done
---   cores, policy and tasks: 5 to 11 and 17 first      list_done of 32 places, tasks_done of the caller's list
+--   cores, policy and tasks: 5 to 11 and 17 first      list_done of 32 places, tasks_done of the caller's
+-- list
 --   the caller's list afterwards                       list_after
 --
 -- Assumes nothing.

@@ -12,7 +12,7 @@ use Rattle.base.proofs.SumLaws.{sum_same}
 use Rattle.base.proofs.FirstLaws.{first_same, first_small}
 use Rattle.base.proofs.RowLaws.{list_at}
 use Rattle.model.specs.Bound.{System}
-use Rattle.model.specs.Forcing.{lacks, lacking, made}
+use Rattle.model.specs.Forcing.{lacks, lacking}
 use Rattle.model.proofs.ForcingLaws.{made_at}
 use Rattle.rounds.specs.Forcing.{lowest_preemptive, made_lowest, made2}
 use Rattle.rounds.proofs.ForcingLaws.{made2_lacking, made2_lowest, lowest_forced, others_stay}

@@ -5,7 +5,7 @@ use Rattle.std.proofs.Common.{ℕ, ◌+◌, ◌-◌, ◌≤◌, ◌<◌, arith, 
 use Rattle.std.proofs.Common.{eqb}
 use Rattle.base.specs.Sums.{sum_to}
 use Rattle.base.specs.Least.{first_of}
-use Rattle.base.specs.Rows.{at, row}
+use Rattle.base.specs.Rows.{at}
 use Rattle.base.proofs.SumLaws.{sum_same}
 use Rattle.base.proofs.RowLaws.{row_at, row_same}
 use Rattle.model.specs.Bound.{System, Legal}

@@ -62,7 +62,8 @@ some_tested t rs a {v} e =
     ))
 
 module _ {s w s' : List ℕ} {end : ℕ} (p : Put s 0 w end s') (some : 0 < length w) (rounds : ℕ) where
-  over : {r : ℕ} {s'' : List ℕ} → Put s' (end - 1) (rounds_end rounds) r s'' → Put s 0 (gaining w rounds) r s''
+  over : {r : ℕ} {s'' : List ℕ} → Put s' (end - 1) (rounds_end rounds) r s''
+      → Put s 0 (gaining w rounds) r s''
   over {r} {s''} q = record {
     fits = omega (arith, q.fits, put_length p, (put_start p).0, gaining_length w rounds);
     next = omega (arith, q.next, (put_start p).0, gaining_length w rounds);

@@ -16,5 +16,6 @@ pub marked : T (every cases)
 unfolding
     sum_to top_to least first_from list_from work_in W E share block from cap share_of block_of B satisfies
     least_length bound test lowest lacks lacking made no_slack bounds_in slack_after slacks_after changes
-    rounds_from room test2 lowest_preemptive made_lowest made2 run2 force2 cases every right same_numbers same_test
+    rounds_from room test2 lowest_preemptive made_lowest made2 run2 force2 cases every right same_numbers
+    same_test
 marked = tt

@@ -79,7 +79,8 @@ module _ (f : Form) (s : List ℕ) (h : Table) where
       (a : RowsRead given levels is rs cs js i at place)
     where
       module _ (x : List ℕ) (r : TaskLine) (same : x ≡ drop at s) (level : ℕ) (due : level ≡ i + 1)
-          (e : r ≡ task_answer (task_of level (fields_part x)) (task_line_fault f level x)) (l : i < h.n) where
+          (e : r ≡ task_answer (task_of level (fields_part x)) (task_line_fault f level x))
+          (l : i < h.n) where
         pub rows_wrong : (y : ℕ) → r ≡ Wrong y → stopped y place ≡ tasks_read f s h
         rows_wrong y w = progress_wrong f s h _ i at place a.lines x r same level due e l y w
 

@@ -142,7 +142,8 @@ module _ {t : Table} {inverse rest cost reach : List ℕ} {h : Head} (legal : Le
           no_worse_both _ _
           (left_out (under (system_of t) S) (under (system_in h rest cost reach) S) fl fl (λ i. i) there k
           (omega (arith, is.n)) (legal.each k inside).some)
-          (left_out (under (system_in h rest cost reach) S) (under (system_of t) S) fl fl (λ i. i) back k inside
+          (left_out (under (system_in h rest cost reach) S) (under (system_of t) S) fl fl (λ i. i) back k
+          inside
           (omega (arith, rows_time k inside, (legal.each k inside).some)))
 
     pub rows_bound : (fl : ℕ → ℕ) (k : ℕ) → k < t.n

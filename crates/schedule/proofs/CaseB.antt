@@ -32,11 +32,13 @@ use Rattle.schedule.proofs.Sound.{sound_forced}
 use Rattle.schedule.proofs.Charts.{all, Fine, chart_follows, chart_follows_one_by_one}
 
 pub first_bound : bound case_b non_preemptive 0 ≡ 12
-unfolding bound least_length satisfies B block_of share_of cap from block share E W work_in sum_to top_to least
+unfolding bound least_length satisfies B block_of share_of cap from block share E W work_in sum_to top_to
+    least
 first_bound = refl
 
 pub second_bound : bound case_b non_preemptive 1 ≡ 17
-unfolding bound least_length satisfies B block_of share_of cap from block share E W work_in sum_to top_to least
+unfolding bound least_length satisfies B block_of share_of cap from block share E W work_in sum_to top_to
+    least
 second_bound = refl
 
 -- a fact of each of two places

@@ -39,12 +39,14 @@ pair_legal p = record {
 }
 
 pub pair_first : (p : Policy) → bound (pair p) non_preemptive 0 ≡ 0
-unfolding bound least_length satisfies B block_of share_of cap from block share E W work_in sum_to top_to least
+unfolding bound least_length satisfies B block_of share_of cap from block share E W work_in sum_to top_to
+    least
 pair_first EDF = refl
 pair_first FP = refl
 
 pub pair_second : (p : Policy) → bound (pair p) non_preemptive 1 ≡ 3
-unfolding bound least_length satisfies B block_of share_of cap from block share E W work_in sum_to top_to least
+unfolding bound least_length satisfies B block_of share_of cap from block share E W work_in sum_to top_to
+    least
 pair_second EDF = refl
 pair_second FP = refl
 

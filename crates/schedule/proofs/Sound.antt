@@ -99,5 +99,6 @@ sound_forced s fs ok none pass x f k a kn =
     let e : (i : ℕ) → i < s.count → at (force s fs).bounds i ≡ bound s fl i =
     λ i lt. ap (λ bs. at bs i) (run_bounds s s.count fs 0) ∙ test_at s (force s fs).flags i lt in
     renamed (sym (e k kn))
-    (sound_passing s fl ok none (λ i lt. omega (arith, e i lt, lowest_none_lem s (force s fs).bounds pass i lt))
+    (sound_passing s fl ok none (λ i lt. omega
+    (arith, e i lt, lowest_none_lem s (force s fs).bounds pass i lt))
     x f k a kn)

@@ -27,6 +27,7 @@ module _ {inverse rest cost reach cap : List ℕ} {n ahead q : ℕ} {row line : 
     row_size = a.size;
     line_size = works.line_size;
     sum = a.sum ∙ sum_same (row_share full left cap q) (share_at rest cost reach cap ahead q) n row_share_lem;
-    all = a.all ∙ sum_same (row_growth full left cap q) (growth_at rest cost reach cap ahead q) n row_growth_lem;
+    all = a.all ∙ sum_same (row_growth full left cap q) (growth_at rest cost reach cap ahead q) n
+        row_growth_lem;
     growth = λ i lt. a.growth i lt ∙ row_growth_lem i lt;
   }

@@ -35,7 +35,8 @@ module _ (t : Table) where
 
   module _ (head : head_fault_of t ≡ 0) where
     -- then the first task with a fault
-    pub task_refused : {i f : ℕ} → suc i ≡ faulty_task t → f ≡ task_fault_at t i → faulty f (suc i) ≡ check_of t
+    pub task_refused : {i f : ℕ} → suc i ≡ faulty_task t → f ≡ task_fault_at t i
+        → faulty f (suc i) ≡ check_of t
     unfolding check_of
     task_refused {i} e is = rw (head, ← e) (ap (λ x. faulty x (suc i)) is)
 

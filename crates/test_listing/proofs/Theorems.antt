@@ -54,10 +54,14 @@ pub example : test_of
     ≡ word "plan FP cores 1 tasks 2\n"
     ++ (word "task 1 P bound 4 deadline 12 load 334\n"
     ++ (word "task 2 P none deadline 18 load 375\n" ++ word "total load 709 answer no\n"))
-unfolding sum_to top_to least first_from work_in W E share block from cap share_of block_of B satisfies least_length
-    bound list_from test lowest flags_of row head_fault task_fault digit_of byte_at word_at all_digits frame_fault
-    head_of task_of line_start head_line_fault task_line_fault with_tasks wrong_task tasks_read front_by read_of test_done
-    legal_done room_done plan_done digits decimal load line_one bound_part test_task test_last total_load lines_to
+unfolding sum_to top_to least first_from work_in W E share block from cap share_of block_of B satisfies
+    least_length
+    bound list_from test lowest flags_of row head_fault task_fault digit_of byte_at word_at all_digits
+    frame_fault
+    head_of task_of line_start head_line_fault task_line_fault with_tasks wrong_task tasks_read front_by
+    read_of test_done
+    legal_done room_done plan_done digits decimal load line_one bound_part test_task test_last total_load
+    lines_to
     test_text test_of
 example = refl
 

@@ -27,7 +27,8 @@ said_wrote said after told list new told' e bytes answer = record {
 pub tasks_wrote : (levels : Bool) (cores policy : ℕ) (xs old : List ℕ) (start : ℕ) (told new told' : List ℕ)
     (n : ℕ) (ts : List Task) (w : Written) (list : List ℕ) → n ≡ count_in levels (length xs)
     → ts ≡ tasks_in levels xs → WroteAs (table_from cores policy n ts) old start w new → list ≡ written_told w
-    → told' ≡ told_after list told → TasksWrote levels cores policy xs old start told (get_or list 2 0) new told'
+    → told' ≡ told_after list told → TasksWrote levels cores policy xs old start told (get_or list 2 0) new
+    told'
 tasks_wrote levels cores policy xs old start told new told' n ts w list en et h said answer =
     let h' : WroteAs (table_from cores policy (count_in levels (length xs)) (tasks_in levels xs)) old start w
     new =

@@ -1,3 +1,5 @@
+-- `asked::put_said` meets its contract: what is left to show beside the invariants.
+-- Assumes nothing.
 use Rattle.std.proofs.Common.{arith}
 use Rattle.planner.specs.Rows.{said_done}
 use Rattle.flat.specs.Flat.{flat_after}

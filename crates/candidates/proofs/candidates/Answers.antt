@@ -1,3 +1,5 @@
+-- `candidates::candidates` meets its contract: what is left to show beside the invariants.
+-- Assumes nothing.
 use Rattle.std.proofs.Common.{arith, rules}
 use Rattle.candidates.specs.Candidates.{candidate_in}
 use Rattle.rows.proofs.FillLaws.{filled_start, filled_step, filled_end}

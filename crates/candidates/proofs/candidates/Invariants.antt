@@ -11,7 +11,8 @@ use Rattle.candidates.proofs.candidates.Given as goal
 
 abbrev pub invariant-loop-i : goal.invariant-loop-i
 invariant-loop-i l =
-    (l.i ≤ l.n) × (Filled (λ j. block_for FP 0 (flag_in l.flags j) (higher_at l.levels l.k j) (at l.cost j)) l.initial.x l.x l.i)
+    (l.i ≤ l.n) × (Filled (λ j. block_for FP 0 (flag_in l.flags j) (higher_at l.levels l.k j) (at l.cost j))
+    l.initial.x l.x l.i)
 
 abbrev pub decreases-loop-i : goal.decreases-loop-i
 decreases-loop-i l = l.n - l.i

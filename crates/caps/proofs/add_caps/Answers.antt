@@ -1,3 +1,5 @@
+-- `caps::add_caps` meets its contract: what is left to show beside the invariants.
+-- Assumes nothing.
 use Rattle.std.proofs.Common.{◌+◌, ◌-◌, arith, ◌≡◌, rules}
 use Rattle.base.specs.Rows.{at}
 use Rattle.table.specs.Table.{policy_of}

@@ -11,7 +11,8 @@ use Rattle.caps.proofs.add_caps.Given as goal
 
 abbrev pub invariant-loop-i : goal.invariant-loop-i
 invariant-loop-i l =
-    (l.i ≤ l.n) × (Filled (cap_of (system_in l.head l.rest l.cost l.reach) (flag_in l.flags) l.k (at l.initial.cap)) l.initial.cap l.cap l.i)
+    (l.i ≤ l.n) × (Filled (cap_of (system_in l.head l.rest l.cost l.reach) (flag_in l.flags) l.k
+    (at l.initial.cap)) l.initial.cap l.cap l.i)
 
 abbrev pub decreases-loop-i : goal.decreases-loop-i
 decreases-loop-i l = l.n - l.i

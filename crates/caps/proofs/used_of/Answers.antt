@@ -1,3 +1,5 @@
+-- `caps::used_of` meets its contract: what is left to show beside the invariants.
+-- Assumes nothing.
 use Rattle.caps.proofs.UsedLaws.{used_start, used_step}
 use Rattle.caps.proofs.used_of.Goals as goal
 

@@ -1,3 +1,5 @@
+-- `changer::table_in` meets its contract: what is left to show beside the invariants.
+-- Assumes nothing.
 use Rattle.std.proofs.Common.{arith}
 use Rattle.changer.proofs.HeldLaws.{taking_start, taking_step, taking_end}
 use Rattle.changer.proofs.table_in.Goals as goal

@@ -1,3 +1,5 @@
+-- `changer::with_flags` meets its contract: what is left to show beside the invariants.
+-- Assumes nothing.
 use Rattle.std.proofs.Common.{arith}
 use Rattle.changer.proofs.ChangeLaws.{flagging_start, flagging_step, flagging_end}
 use Rattle.changer.proofs.with_flags.Goals as goal

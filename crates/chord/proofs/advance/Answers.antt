@@ -1,3 +1,5 @@
+-- `chord::advance` meets its contract: what is left to show beside the invariants.
+-- Assumes nothing.
 use Rattle.std.proofs.Common.{◌+◌, arith, div-le_self}
 use Rattle.chord.proofs.JumpLaws.{fall_start, fall_fits, fall_end, fall_fewer}
 use Rattle.chord.proofs.JumpLaws.{fall_less, fall_on}

@@ -1,3 +1,5 @@
+-- `chord::grown_before` meets its contract: what is left to show beside the invariants.
+-- Assumes nothing.
 use Rattle.chord.proofs.JumpLaws.{run_start, run_still, run_on, run_end}
 use Rattle.chord.proofs.grown_before.Goals as goal
 use Rattle.chord.proofs.grown_before.Goals.{then-g-d, else-g-d}

@@ -1,3 +1,5 @@
+-- `differences::list_all` meets its contract: what is left to show beside the invariants.
+-- Assumes nothing.
 use Rattle.std.proofs.Common.{arith}
 use Rattle.base.specs.Rows.{at}
 use Rattle.flags.specs.Flags.{flag_in}

@@ -9,7 +9,8 @@ use Rattle.differences.proofs.list_all.Given as goal
 
 abbrev pub invariant-loop-i : goal.invariant-loop-i
 invariant-loop-i l =
-    Listing (flag_in l.flags) (at l.cost) (at l.slacks) l.due l.n l.initial.most l.initial.wait l.most l.wait l.all l.i
+    Listing (flag_in l.flags) (at l.cost) (at l.slacks) l.due l.n l.initial.most l.initial.wait l.most l.wait
+    l.all l.i
 
 abbrev pub decreases-loop-i : goal.decreases-loop-i
 decreases-loop-i l = l.n - l.i

@@ -1,4 +1,5 @@
--- `edition_entries::run_tasks_in` meets its contract: there are at most 32 records, and no more than the room.
+-- `edition_entries::run_tasks_in` meets its contract: there are at most 32 records, and no more than the
+-- room.
 -- Assumes nothing.
 use Rattle.std.proofs.Common.{ap}
 use Rattle.edition_2.specs.declared.Rounded.{Rounded}

@@ -1,3 +1,5 @@
+-- `entries::load_tasks` meets its contract: what is left to show beside the invariants.
+-- Assumes nothing.
 use Rattle.std.proofs.Common.{◌<◌, ◌≡◌, List, set, min, length, get_or, replicate, arith, ap, ◌∙◌}
 use Rattle.std.proofs.Math.ListN.{length-replicate}
 use Rattle.table.specs.declared.Task.{Task}

@@ -1,3 +1,5 @@
+-- `entries::put_done` meets its contract: what is left to show beside the invariants.
+-- Assumes nothing.
 use Rattle.std.proofs.Common.{◌<◌, length, arith}
 use Rattle.planner.specs.Answers.{no_record}
 use Rattle.entries.proofs.FillLaws.{fill_step}

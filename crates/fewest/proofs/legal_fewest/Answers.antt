@@ -1,3 +1,5 @@
+-- `fewest::legal_fewest` meets its contract: what is left to show beside the invariants.
+-- Assumes nothing.
 use Rattle.std.proofs.Common.{arith}
 use Rattle.fewest.proofs.HalvingLaws.{halving_start, halving_down, halving_up, halving_end}
 use Rattle.fewest.proofs.HalvingLaws.{halving_none}

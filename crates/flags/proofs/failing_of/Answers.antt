@@ -1,3 +1,5 @@
+-- `flags::failing_of` meets its contract: what is left to show beside the invariants.
+-- Assumes nothing.
 use Rattle.std.proofs.Common.{arith, refl}
 use Rattle.flags.proofs.FlagLaws.{held_start, held_step, held_end}
 use Rattle.flags.proofs.failing_of.Goals as goal

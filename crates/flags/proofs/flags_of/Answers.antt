@@ -1,3 +1,5 @@
+-- `flags::flags_of` meets its contract: what is left to show beside the invariants.
+-- Assumes nothing.
 use Rattle.std.proofs.Common.{arith, sym}
 use Rattle.table.proofs.TableLaws.{flags_at}
 use Rattle.flags.proofs.FlagLaws.{held_start, held_step, held_end}

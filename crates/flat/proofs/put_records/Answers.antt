@@ -1,3 +1,5 @@
+-- `flat::put_records` meets its contract: what is left to show beside the invariants.
+-- Assumes nothing.
 use Rattle.std.proofs.Common.{arith}
 use Rattle.flat.proofs.FlatLaws.{putting_start, putting_length, putting_step, putting_end}
 use Rattle.flat.proofs.put_records.Goals as goal

@@ -1,3 +1,5 @@
+-- `flat_tasks::tasks_in` meets its contract: what is left to show beside the invariants.
+-- Assumes nothing.
 use Rattle.std.proofs.Common.{arith}
 use Rattle.table.specs.Table.{no_task}
 use Rattle.base.proofs.RowLaws.{fill_start, fill_step, fill_end}

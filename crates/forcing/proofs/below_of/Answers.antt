@@ -1,3 +1,5 @@
+-- `forcing::below_of` meets its contract: what is left to show beside the invariants.
+-- Assumes nothing.
 use Rattle.std.proofs.Common.{arith, ap, ◌∙◌}
 use Rattle.flags.specs.Flags.{flag_in}
 use Rattle.rows.specs.Levels.{level_in}

@@ -1,3 +1,5 @@
+-- `forcing::force_rows` meets its contract: what is left to show beside the invariants.
+-- Assumes nothing.
 use Rattle.std.proofs.Common.{arith, refl}
 use Rattle.forcing.proofs.StartLaws.{rows_sized, passing_start, passing_small}
 use Rattle.forcing.proofs.PassingLaws.{passing_ends, passing_done, passing_falls, passing_more}

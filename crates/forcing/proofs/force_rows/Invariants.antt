@@ -11,7 +11,8 @@ use Rattle.forcing.proofs.force_rows.Given as goal
 
 abbrev pub invariant-loop-failing : goal.invariant-loop-failing
 invariant-loop-failing l =
-    Passing (system_in l.head l.rest l.cost l.reach) (level_in l.head.levels) l.initial.flags l.flags l.below l.bounds l.passes
+    Passing (system_in l.head l.rest l.cost l.reach) (level_in l.head.levels) l.initial.flags l.flags l.below
+    l.bounds l.passes
 
 abbrev pub decreases-loop-failing : goal.decreases-loop-failing
 decreases-loop-failing l =

@@ -1,3 +1,5 @@
+-- `frame_reader::all_digits` meets its contract: what is left to show beside the invariants.
+-- Assumes nothing.
 use Rattle.std.proofs.Common.{arith, sym, ◌∙◌, leb-true}
 use Rattle.base.proofs.FirstLaws.{find_start, find_step}
 use Rattle.frames.proofs.DigitLaws.{none_wrong, digits_wrong}

@@ -28,16 +28,28 @@ pub returns-then-s-due-ne10 : goal.returns-then-s-due-ne10
 returns-then-s-due-ne10 c = sym (wrong_frame (no_end (omega arith) c.if-s-due-ne10.true))
 
 pub frame_sum-sum-requires : goal.frame_sum-sum-requires
-frame_sum-sum-requires c = (search rules, (omega arith, (omega arith, (whole (omega arith) c.all_digits-right.ensures c.if-not-right.false c.if-s-due-ne10.false).each)))
+frame_sum-sum-requires c = (
+  search rules,
+  (
+    omega arith,
+    (
+      omega arith,
+      (whole (omega arith) c.all_digits-right.ensures c.if-not-right.false
+          c.if-s-due-ne10.false).each,
+    ),
+  ),
+)
 
 pub returns-then-sum-ne0 : goal.returns-then-sum-ne0
 returns-then-sum-ne0 c =
-    sym (wrong_frame (no_sum (whole (omega arith) c.all_digits-right.ensures c.if-not-right.false c.if-s-due-ne10.false)
+    sym (wrong_frame (no_sum (whole (omega arith) c.all_digits-right.ensures c.if-not-right.false
+    c.if-s-due-ne10.false)
     (λ e. c.if-sum-ne0.true (ap (λ (x : ℕ). x % 256) c.frame_sum-sum.ensures ∙ e))))
 
 pub returns-then-first-kind : goal.returns-then-first-kind
 returns-then-first-kind c =
-    sym (wrong_frame (no_kind (whole (omega arith) c.all_digits-right.ensures c.if-not-right.false c.if-s-due-ne10.false)
+    sym (wrong_frame (no_kind (whole (omega arith) c.all_digits-right.ensures c.if-not-right.false
+    c.if-s-due-ne10.false)
     (ap (λ (x : ℕ). x % 256) (sym c.frame_sum-sum.ensures) ∙ c.if-sum-ne0.false)
     (λ e. c.if-first-kind.true (c.byte-first.ensures ∙ e))))
 

@@ -1,3 +1,5 @@
+-- `frame_reader::frame_sum` meets its contract: what is left to show beside the invariants.
+-- Assumes nothing.
 use Rattle.std.proofs.Common.{arith}
 use Rattle.base.proofs.SumLaws.{sum_start, sum_step, sum_end}
 use Rattle.frames.proofs.DigitLaws.{sum_fits}

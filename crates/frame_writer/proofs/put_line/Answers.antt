@@ -1,3 +1,5 @@
+-- `frame_writer::put_line` meets its contract: what is left to show beside the invariants.
+-- Assumes nothing.
 use Rattle.std.proofs.Common.{arith, rules}
 use Rattle.buffer.proofs.PutLaws.{put_length}
 use Rattle.frame_writer.proofs.LineLaws.{lining_start, lining_room, lining_step, lining_last, lining_small}

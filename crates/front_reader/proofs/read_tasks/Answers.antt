@@ -1,3 +1,5 @@
+-- `front_reader::read_tasks` meets its contract: what is left to show beside the invariants.
+-- Assumes nothing.
 use Rattle.std.proofs.Common.{refl, arith, rules, ◌∙◌}
 use Rattle.lines.proofs.LineLaws.{tail_part}
 use Rattle.lines.proofs.ReadLaws.{progress_start, progress_small, progress_wrong}

@@ -1,3 +1,5 @@
+-- `largest::keep_largest` meets its contract: what is left to show beside the invariants.
+-- Assumes nothing.
 use Rattle.std.proofs.Common.{ℕ, arith, ap, ◌∙◌, rules, length, length-set}
 use Rattle.std.proofs.Math.ListN.{length-replicate}
 use Rattle.largest.proofs.KeepLaws.{keep_start, kept_full, kept_all}

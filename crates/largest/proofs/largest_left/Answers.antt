@@ -1,3 +1,5 @@
+-- `largest::largest_left` meets its contract: what is left to show beside the invariants.
+-- Assumes nothing.
 use Rattle.std.proofs.Common.{rules}
 use Rattle.largest.proofs.LookLaws.{look_start, look_past, look_more, look_end}
 use Rattle.largest.proofs.largest_left.Goals as goal

@@ -14,7 +14,8 @@ record Fields (f : Form) (s : List ℕ) : Type 0 where
   pub whole : head_frame_fault f s ≡ 0
   pub long : 10 < length s
 
-right : {f : Form} {s : List ℕ} {wrong : ℕ} → FormSized f → wrong ≡ head_frame_fault f s → wrong ≡ 0 → Fields f s
+right : {f : Form} {s : List ℕ} {wrong : ℕ} → FormSized f → wrong ≡ head_frame_fault f s → wrong ≡ 0
+    → Fields f s
 right {f} {s} sized said none =
     let e : head_frame_fault f s ≡ 0 = sym said ∙ none in
     record { whole = e; long = omega (arith, part_long _ _ _ e, sized.head) }
@@ -31,8 +32,14 @@ returns-then-wrong-ne0 c =
 
 pub head_fields-head-requires : goal.head_fields-head-requires
 head_fields-head-requires c =
-    let s : List ℕ = c.args.text.now in
-    (search rules, rw (tail_part 2 s) (omega (arith, length-drop 2 s, (right c.requires.1 c.frame_fault-wrong.ensures c.if-wrong-ne0.false).long)))
+    let s : List ℕ = c.args.text.now in (
+      search rules,
+      rw (tail_part 2 s) (omega (
+        arith,
+        length-drop 2 s,
+        (right c.requires.1 c.frame_fault-wrong.ensures c.if-wrong-ne0.false).long,
+      )),
+    )
 
 pub returns-then-fault-ne0 : goal.returns-then-fault-ne0
 returns-then-fault-ne0 c =
@@ -49,7 +56,13 @@ returns c =
     _ c.head_fault-fault.ensures c.if-fault-ne0.false
 
 pub slice_bounds-head_fields-count : goal.slice_bounds-head_fields-count
-slice_bounds-head_fields-count c = omega (arith, (right c.requires.1 c.frame_fault-wrong.ensures c.if-wrong-ne0.false).long)
+slice_bounds-head_fields-count c = omega (
+  arith,
+  (right c.requires.1 c.frame_fault-wrong.ensures c.if-wrong-ne0.false).long,
+)
 
 pub slice_bounds-head_fields-start : goal.slice_bounds-head_fields-start
-slice_bounds-head_fields-start c = omega (arith, (right c.requires.1 c.frame_fault-wrong.ensures c.if-wrong-ne0.false).long)
+slice_bounds-head_fields-start c = omega (
+  arith,
+  (right c.requires.1 c.frame_fault-wrong.ensures c.if-wrong-ne0.false).long,
+)

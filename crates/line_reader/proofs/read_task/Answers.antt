@@ -16,7 +16,8 @@ record Fields (f : Form) (s : List ℕ) : Type 0 where
   pub long : 28 < length s
   pub fields : Digits (fields_part s) 26
 
-right : {f : Form} {s : List ℕ} {wrong : ℕ} → FormSized f → wrong ≡ task_frame_fault f s → wrong ≡ 0 → Fields f s
+right : {f : Form} {s : List ℕ} {wrong : ℕ} → FormSized f → wrong ≡ task_frame_fault f s → wrong ≡ 0
+    → Fields f s
 right {f} {s} sized said none =
     let e : task_frame_fault f s ≡ 0 = sym said ∙ none in
     record {
@@ -57,7 +58,13 @@ returns c =
     _ c.task_fault-fault.ensures c.if-fault-ne0.false
 
 pub slice_bounds-task_fields-count : goal.slice_bounds-task_fields-count
-slice_bounds-task_fields-count c = omega (arith, (right c.requires.1 c.frame_fault-wrong.ensures c.if-wrong-ne0.false).long)
+slice_bounds-task_fields-count c = omega (
+  arith,
+  (right c.requires.1 c.frame_fault-wrong.ensures c.if-wrong-ne0.false).long,
+)
 
 pub slice_bounds-task_fields-start : goal.slice_bounds-task_fields-start
-slice_bounds-task_fields-start c = omega (arith, (right c.requires.1 c.frame_fault-wrong.ensures c.if-wrong-ne0.false).long)
+slice_bounds-task_fields-start c = omega (
+  arith,
+  (right c.requires.1 c.frame_fault-wrong.ensures c.if-wrong-ne0.false).long,
+)

@@ -1,3 +1,5 @@
+-- `lines_writer::put_tasks` meets its contract: what is left to show beside the invariants.
+-- Assumes nothing.
 use Rattle.std.proofs.Common.{arith, rules}
 use Rattle.buffer.proofs.PutLaws.{put_length}
 use Rattle.lines_writer.proofs.RestLaws.{rest_room, put_rest}

@@ -1,3 +1,5 @@
+-- `lines_writer::unplaced` meets its contract: what is left to show beside the invariants.
+-- Assumes nothing.
 use Rattle.std.proofs.Common.{arith}
 use Rattle.lines.proofs.LevelLaws.{placing_start, placing_step, placing_other, placing_end}
 use Rattle.lines_writer.proofs.unplaced.Goals as goal

@@ -1,3 +1,5 @@
+-- `loads::total_load` meets its contract: what is left to show beside the invariants.
+-- Assumes nothing.
 use Rattle.std.proofs.Common.{arith}
 use Rattle.table.proofs.LoadLaws.{adding_start, adding_small, adding_step, adding_end, task_ranges}
 use Rattle.table.proofs.LoadLaws.{load_at_small}

@@ -1,3 +1,5 @@
+-- `page::put` meets its contract: what is left to show beside the invariants.
+-- Assumes nothing.
 use Rattle.std.proofs.Common.{rules}
 use Rattle.buffer.proofs.PutLaws.{putting_start, putting_step, putting_end}
 use Rattle.page.proofs.put.Goals as goal

@@ -1,3 +1,5 @@
+-- `passes::search_on` meets its contract: what is left to show beside the invariants.
+-- Assumes nothing.
 use Rattle.std.proofs.Common.{arith, refl}
 use Rattle.passes.proofs.PassLaws.{onward_start, onward_from, onward_step, onward_skip, onward_end}
 use Rattle.passes.proofs.PassLaws.{sought_yes, sought_no}
@@ -31,7 +33,8 @@ loop-k-preserved c =
         | then-sought w ↦
             rw w.bounds-is (onward_step inv (omega (arith, c.requires.0.count, c.loop-k-test.true))
             (sought_yes _ _ _ c.sought.ensures w.if-sought.true).1 w.bound_of.ensures)
-        | else-sought w ↦ rw w.bounds-is (onward_skip inv (sought_no _ _ _ c.sought.ensures w.if-sought.false))
+        | else-sought w ↦ rw w.bounds-is (onward_skip inv
+            (sought_no _ _ _ c.sought.ensures w.if-sought.false))
       ],
     )
 

@@ -11,7 +11,8 @@ use Rattle.passes.proofs.search_on.Given as goal
 abbrev pub invariant-loop-k : goal.invariant-loop-k
 invariant-loop-k l =
     (l.k ≤ l.n)
-    × (Onward (system_in l.head l.rest l.cost l.reach) (flag_in l.flags) (level_in l.head.levels) l.below l.k l.initial.bounds l.bounds)
+    × (Onward (system_in l.head l.rest l.cost l.reach) (flag_in l.flags) (level_in l.head.levels) l.below l.k
+    l.initial.bounds l.bounds)
 
 abbrev pub decreases-loop-k : goal.decreases-loop-k
 decreases-loop-k l = l.n - l.k

@@ -1,3 +1,5 @@
+-- `passes::search_rest` meets its contract: what is left to show beside the invariants.
+-- Assumes nothing.
 use Rattle.std.proofs.Common.{arith, ◌∙◌}
 use Rattle.bound.proofs.SearchLaws.{none_at_first}
 use Rattle.passes.proofs.PassLaws.{rest_start, rest_found, rest_skip, rest_here, rest_end}

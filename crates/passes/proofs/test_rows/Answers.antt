@@ -1,3 +1,5 @@
+-- `passes::test_rows` meets its contract: what is left to show beside the invariants.
+-- Assumes nothing.
 use Rattle.std.proofs.Common.{arith, ◌∙◌}
 use Rattle.base.proofs.RowLaws.{fill_start, fill_step, fill_end}
 use Rattle.bound.proofs.SearchLaws.{none_at_first}

@@ -1,3 +1,5 @@
+-- `planner::records` meets its contract: what is left to show beside the invariants.
+-- Assumes nothing.
 use Rattle.std.proofs.Common.{arith}
 use Rattle.base.proofs.RowLaws.{fill_start, fill_end}
 use Rattle.planner.specs.Answers.{no_record}

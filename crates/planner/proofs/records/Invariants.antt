@@ -8,7 +8,8 @@ use Rattle.planner.proofs.records.Given as goal
 
 abbrev pub invariant-loop-i : goal.invariant-loop-i
 invariant-loop-i l =
-    (l.i ≤ l.n) × (l.recs ≡ records_of l.i (flag_in l.flags) (changes (flag_in l.given) (flag_in l.flags)) (at l.bounds))
+    (l.i ≤ l.n) × (l.recs ≡ records_of l.i (flag_in l.flags) (changes (flag_in l.given) (flag_in l.flags))
+    (at l.bounds))
 
 abbrev pub decreases-loop-i : goal.decreases-loop-i
 decreases-loop-i l = l.n - l.i

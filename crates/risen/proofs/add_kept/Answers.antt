@@ -1,3 +1,5 @@
+-- `risen::add_kept` meets its contract: what is left to show beside the invariants.
+-- Assumes nothing.
 use Rattle.std.proofs.Common.{arith}
 use Rattle.risen.proofs.AddLaws.{adding_start, adding_fits, adding_step, adding_end}
 use Rattle.risen.proofs.add_kept.Goals as goal

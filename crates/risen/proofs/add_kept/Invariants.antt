@@ -7,7 +7,8 @@ use Rattle.risen.proofs.add_kept.Given as goal
 
 abbrev pub invariant-loop-i : goal.invariant-loop-i
 invariant-loop-i l =
-    Adding l.most l.kept l.n (record { sum = l.initial.sum; all = l.initial.all }) l.initial.row l.row l.sum l.all l.i
+    Adding l.most l.kept l.n (record { sum = l.initial.sum; all = l.initial.all }) l.initial.row l.row l.sum
+    l.all l.i
 
 abbrev pub decreases-loop-i : goal.decreases-loop-i
 decreases-loop-i l = l.n - l.i

@@ -1,3 +1,5 @@
+-- `risen::risen_row` meets its contract: what is left to show beside the invariants.
+-- Assumes nothing.
 use Rattle.std.proofs.Common.{arith}
 use Rattle.rows.proofs.FillLaws.{filled_start, filled_step}
 use Rattle.risen.specs.Risen.{risen_at}

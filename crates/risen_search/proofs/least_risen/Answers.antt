@@ -1,3 +1,5 @@
+-- `risen_search::least_risen` meets its contract: what is left to show beside the invariants.
+-- Assumes nothing.
 use Rattle.std.proofs.Common.{arith}
 use Rattle.search.proofs.ClimbLaws.{climb_none, climb_small, climb_found, climb_over, climb_up}
 use Rattle.search.proofs.ClimbLaws.{climb_on}
@@ -123,5 +125,6 @@ returns-then-whole-enough c =
     let within = turn.if-last-q.false in
     risen_least s.requires.0 most wait s.requires.3
     (climb_found s.requires.0 a.loop-q.invariant.0 within
-    (risen_turn s.requires.0 most wait s.requires.3 within e.evaluate-shared.ensures up.add_risen-whole.ensures)
+    (risen_turn s.requires.0 most wait s.requires.3 within e.evaluate-shared.ensures
+    up.add_risen-whole.ensures)
     c.if-whole-enough.true)

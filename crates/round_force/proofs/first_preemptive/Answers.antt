@@ -1,3 +1,5 @@
+-- `round_force::first_preemptive` meets its contract: what is left to show beside the invariants.
+-- Assumes nothing.
 use Rattle.std.proofs.Common.{arith}
 use Rattle.base.proofs.FirstLaws.{find_start, find_step, find_here, find_none}
 use Rattle.round_force.specs.Forced2.{first_in}
@@ -17,12 +19,11 @@ returns-then-flag_at-ne0 c =
     (flag_some c.flag_at.ensures c.if-flag_at-ne0.true)
 
 pub loop-k-preserved : goal.loop-k-preserved
-loop-k-preserved c =
-    (
-      omega arith,
-      find_step _ c.loop-k.invariant.1
-          (flag_none c.flag_at.ensures c.if-flag_at-ne0.false),
-    )
+loop-k-preserved c = (
+  omega arith,
+  find_step _ c.loop-k.invariant.1
+      (flag_none c.flag_at.ensures c.if-flag_at-ne0.false),
+)
 
 pub returns : goal.returns
 unfolding first_in

@@ -1,3 +1,5 @@
+-- `round_force::force_rounds` meets its contract: what is left to show beside the invariants.
+-- Assumes nothing.
 use Rattle.std.proofs.Common.{arith, inl, inr}
 use Rattle.rows.proofs.HeldLaws.{rows_legal}
 use Rattle.round_force.proofs.ChangeLaws.{first_within}
@@ -31,12 +33,11 @@ returns-then-first-eq0 c =
     c.first_preemptive-first.ensures (inr c.if-first-eq0.true)
 
 pub to_force-forced-requires : goal.to_force-forced-requires
-to_force-forced-requires c =
-    (
-      c.requires.0.count,
-      omega (arith, c.if-first-eq0.false),
-      first_within _ _ c.first_preemptive-first.ensures,
-    )
+to_force-forced-requires c = (
+  c.requires.0.count,
+  omega (arith, c.if-first-eq0.false),
+  first_within _ _ c.first_preemptive-first.ensures,
+)
 
 pub overflow_add-passes : goal.overflow_add-passes
 overflow_add-passes c =

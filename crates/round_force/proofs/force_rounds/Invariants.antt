@@ -12,7 +12,6 @@ abbrev pub invariant-loop-head : goal.invariant-loop-head
 invariant-loop-head l =
     Forcing2 (system_in l.head l.rest l.cost l.reach) l.initial.flags l.flags l.bounds l.passes
 
-
 abbrev pub decreases-loop-head : goal.decreases-loop-head
 decreases-loop-head l =
     sum_to (flag_in l.flags) l.head.n

@@ -1,3 +1,5 @@
+-- `round_slacks::move_slacks` meets its contract: what is left to show beside the invariants.
+-- Assumes nothing.
 use Rattle.std.proofs.Common.{arith}
 use Rattle.round_slacks.proofs.MoveLaws.{moving_start, moving_room, moving_step, moving_end}
 use Rattle.round_slacks.proofs.move_slacks.Goals as goal

@@ -1,3 +1,5 @@
+-- `round_slacks::start_near` meets its contract: what is left to show beside the invariants.
+-- Assumes nothing.
 use Rattle.std.proofs.Common.{arith, refl}
 use Rattle.base.proofs.RowLaws.{fill_start, fill_step, fill_end}
 use Rattle.round_slacks.proofs.start_near.Goals as goal

@@ -1,3 +1,5 @@
+-- `round_test::bounds_in` meets its contract: what is left to show beside the invariants.
+-- Assumes nothing.
 use Rattle.std.proofs.Common.{◌<◌, arith, le_refl, sym, ◌∙◌}
 use Rattle.rows.proofs.FillLaws.{filled_step}
 use Rattle.round_slacks.proofs.MoveLaws.{refill_start, filled_stays, refill_end}

@@ -11,7 +11,8 @@ use Rattle.round_test.proofs.bounds_in.Given as goal
 
 abbrev pub invariant-loop-k : goal.invariant-loop-k
 invariant-loop-k l =
-    (l.k ≤ l.n) × (Filled (bound (under (system_in l.head l.rest l.cost l.reach) (at l.slacks)) (flag_in l.flags)) l.initial.bounds
+    (l.k ≤ l.n) × (Filled (bound (under (system_in l.head l.rest l.cost l.reach) (at l.slacks))
+    (flag_in l.flags)) l.initial.bounds
     l.bounds l.k)
 
 abbrev pub decreases-loop-k : goal.decreases-loop-k

@@ -1,3 +1,5 @@
+-- `round_test::test_rounds` meets its contract: what is left to show beside the invariants.
+-- Assumes nothing.
 use Rattle.std.proofs.Common.{arith, refl}
 use Rattle.round_test.proofs.TurnLaws.{turning_start, turning_rows, turning_small}
 use Rattle.round_test.proofs.TurnLaws.{turning_moves, turning_done, turning_more, turning_falls}

@@ -1,3 +1,5 @@
+-- `row_list::load_list` meets its contract: what is left to show beside the invariants.
+-- Assumes nothing.
 use Rattle.std.proofs.Common.{arith, refl}
 use Rattle.loading.proofs.LoadLaws.{loading_refused}
 use Rattle.row_list.proofs.ListLaws.{head_wrong, list_start, list_small, task_wrong}

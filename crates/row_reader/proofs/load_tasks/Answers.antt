@@ -1,3 +1,5 @@
+-- `row_reader::load_tasks` meets its contract: what is left to show beside the invariants.
+-- Assumes nothing.
 use Rattle.std.proofs.Common.{arith, refl, rules}
 use Rattle.lines.proofs.LineLaws.{tail_part}
 use Rattle.lines.proofs.ReadLaws.{progress_small}

@@ -8,7 +8,8 @@ use Rattle.row_reader.proofs.load_tasks.Given as goal
 
 abbrev pub invariant-loop-i : goal.invariant-loop-i
 invariant-loop-i l =
-    FormSized l.form × RowsRead l.form l.text (empty_table l.head) l.given l.levels l.inverse l.rest l.cost l.reach l.i l.at l.place
+    FormSized l.form × RowsRead l.form l.text (empty_table l.head) l.given l.levels l.inverse l.rest l.cost
+    l.reach l.i l.at l.place
 
 abbrev pub decreases-loop-i : goal.decreases-loop-i
 decreases-loop-i l =

@@ -1,3 +1,5 @@
+-- `rows::rows_of` meets its contract: what is left to show beside the invariants.
+-- Assumes nothing.
 use Rattle.std.proofs.Common.{arith, refl, rules}
 use Rattle.rows.proofs.HeldLaws.{fill_none, fill_more, fill_all}
 use Rattle.rows.proofs.HeldLaws.{levels_none, levels_more, levels_all}

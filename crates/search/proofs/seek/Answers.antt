@@ -1,3 +1,5 @@
+-- `search::seek` meets its contract: what is left to show beside the invariants.
+-- Assumes nothing.
 use Rattle.std.proofs.Common.{arith}
 use Rattle.search.proofs.ClimbLaws.{climb_none, climb_small, climb_found, climb_over}
 use Rattle.search.proofs.ClimbLaws.{climb_up, climb_on}
@@ -94,4 +96,5 @@ returns-then-whole-enough c =
     let ok = a.requires.0 in
     let within = turn.if-last-q.false in
     seek_least ok
-    (climb_found ok a.loop-q.invariant.0 within (seek_turn ok within e.evaluate-whole.ensures) c.if-whole-enough.true)
+    (climb_found ok a.loop-q.invariant.0 within (seek_turn ok within e.evaluate-whole.ensures)
+    c.if-whole-enough.true)

@@ -1,3 +1,5 @@
+-- `search::start` meets its contract: what is left to show beside the invariants.
+-- Assumes nothing.
 use Rattle.std.proofs.Common.{arith}
 use Rattle.search.proofs.StartLaws.{start_start, start_fits, start_step}
 use Rattle.search.proofs.StartLaws.{start_over, start_end}

@@ -1,3 +1,5 @@
+-- `shares::share_row` meets its contract: what is left to show beside the invariants.
+-- Assumes nothing.
 use Rattle.std.proofs.Common.{arith}
 use Rattle.shares.proofs.RowLaws.{share_start, share_fits, share_step, share_end}
 use Rattle.shares.proofs.share_row.Goals as goal

@@ -1,3 +1,5 @@
+-- `shares::work_rows` meets its contract: what is left to show beside the invariants.
+-- Assumes nothing.
 use Rattle.std.proofs.Common.{arith}
 use Rattle.shares.proofs.RowLaws.{work_start, window_at, inverse_at, work_fits, work_step, work_end}
 use Rattle.shares.proofs.work_rows.Goals as goal

@@ -1,3 +1,5 @@
+-- `slack_caps::add_caps_under` meets its contract: what is left to show beside the invariants.
+-- Assumes nothing.
 use Rattle.std.proofs.Common.{◌+◌, arith, rules}
 use Rattle.base.specs.Rows.{at}
 use Rattle.model.specs.Bound.{under}

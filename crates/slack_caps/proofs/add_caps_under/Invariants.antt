@@ -13,7 +13,8 @@ use Rattle.slack_caps.proofs.add_caps_under.Given as goal
 abbrev pub invariant-loop-i : goal.invariant-loop-i
 invariant-loop-i l =
     (l.i ≤ l.n)
-    × (Filled (cap_of (under (system_in l.head l.rest l.cost l.reach) (at l.slacks)) (flag_in l.flags) l.k (at l.initial.cap)) l.initial.cap l.cap
+    × (Filled (cap_of (under (system_in l.head l.rest l.cost l.reach) (at l.slacks)) (flag_in l.flags) l.k
+    (at l.initial.cap)) l.initial.cap l.cap
     l.i)
 
 abbrev pub decreases-loop-i : goal.decreases-loop-i

@@ -1,3 +1,5 @@
+-- `table::check_table` meets its contract: what is left to show beside the invariants.
+-- Assumes nothing.
 use Rattle.std.proofs.Common.{arith, sym, ◌∙◌}
 use Rattle.table.proofs.CheckLaws.{head_refused, checking_start, checking_step, checking_fault, checking_end}
 use Rattle.table.proofs.check_table.Goals as goal

@@ -1,3 +1,5 @@
+-- `test_listing::put_rows` meets its contract: what is left to show beside the invariants.
+-- Assumes nothing.
 use Rattle.std.proofs.Common.{arith}
 use Rattle.buffer.proofs.PutLaws.{put_length}
 use Rattle.table.proofs.LoadLaws.{task_ranges}

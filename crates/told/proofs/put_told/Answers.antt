@@ -1,3 +1,5 @@
+-- `told::put_told` meets its contract: what is left to show beside the invariants.
+-- Assumes nothing.
 use Rattle.std.proofs.Common.{arith}
 use Rattle.told.proofs.ToldLaws.{telling_start, telling_length, telling_step, telling_end}
 use Rattle.told.proofs.put_told.Goals as goal

@@ -1,3 +1,5 @@
+-- `words::done_word` meets its contract: what is left to show beside the invariants.
+-- Assumes nothing.
 use Rattle.std.proofs.Common.{arith, refl}
 use Rattle.flags.proofs.FlagLaws.{held_start, held_step}
 use Rattle.words.proofs.WordLaws.{done_word_end}

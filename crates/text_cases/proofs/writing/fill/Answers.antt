@@ -1,3 +1,5 @@
+-- `text_cases::writing::fill` meets its contract: what is left to show beside the invariants.
+-- Assumes nothing.
 use Rattle.std.proofs.Common.{arith, length-set}
 use Rattle.text_cases.proofs.writing.fill.Goals as goal
 
