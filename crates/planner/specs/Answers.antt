@@ -4,7 +4,7 @@
 --   yes or no, forced count, passes                     given says forced passes
 --   a refusal, with number, place and passes            refused number place passes
 --   its values, 0 for none                              values_of n a, for each case a of Answer
---   the records that are written                        values_of n a .written: one for each task, or none
+--   the records that are written                        (values_of n a).written: one for each task, or none
 --   a record: flag, forced mark, bound or 0             entry flag mark bound
 --   n records, zeros past them                          records_of n flags marks bounds, by place
 --   the forced marks: 1 for each changed task           changes given flags

@@ -7,8 +7,8 @@
 --   all bounds, from the slacks ss at a round's start    bounds_in s fs ss
 --   S = D - bound; without a bound S is kept             slack_after d S b, slacks_after s ss bs
 --   no slack changes                                     changes s ss ss' is 0
---   the last round: its bounds, and the round count      test2 s fs .bounds, test2 s fs .rounds
---   the slacks at the start of the last round            test2 s fs .slacks
+--   the last round: its bounds, and the round count      (test2 s fs).bounds, (test2 s fs).rounds
+--   the slacks at the start of the last round            (test2 s fs).slacks
 --
 -- The slacks in s itself are edition 1's, 0 throughout, and are not looked at.
 -- Assumes nothing.

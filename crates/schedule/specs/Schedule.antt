@@ -4,8 +4,8 @@
 -- task i are (i,0), (i,1), ... A job that needs nothing is as good as none, so a task may have few or none.
 --
 --   in words                                            here
---   when (i,j) is released, how long it runs in all     x .release i j, x.need i j
---   (i,j) executes at t                                 x .runs i j t, 1 for yes and 0 for no
+--   when (i,j) is released, how long it runs in all     x.release i j, x.need i j
+--   (i,j) executes at t                                 x.runs i j t, 1 for yes and 0 for no
 --   for how long it has executed before t               done x i j t
 --   how many jobs execute at t                          busy s x t
 --   released and not finished; and not executing        Pending x i j t; Waits x i j t
