@@ -72,7 +72,7 @@ def idle(text, is_code):
             continue
         for one in filter(None, (part.strip() for part in group.split(","))):
             name = one.split(" as ")[-1].strip()
-            # an operator's name has ◌ in the places of its operands, and may stand whole, as in `ap₂ ◌∷◌`
+            # an operator's name has ◌ in the places of its operands, and may stand whole
             if name not in used and not all(part in used for part in name.split("◌") if part):
                 yield name
 
