@@ -17,6 +17,8 @@ LONGEST_LINE, LONGEST_FILE = 110, 300
 # what Rattle itself looks for in the files of a function's proof is public, and no other file names it
 READ_BY_RATTLE = {"Proof.antt", "Invariants.antt", "Answers.antt"}
 COMMENT = re.compile(r"--.*|//.*")
+# an attribute that names laws and definitions by their paths
+TACTIC = re.compile(r"#\[tactic\([^\]]*\]")
 # `use PATH.{a, b as c}`, `use PATH as name`, `use PATH`; group 1 is set where it hands names on
 USE = re.compile(r"^(pub )?(?:ghost )?use ([^\s{;]+?)(?:\.\{([^}]*)\})?(?: as ([^\s;]+))?;?$", re.M)
 PUBLIC = re.compile(r"(\s*)(?:unfoldable |abbrev )?pub (?:record |data |ruleset )?([^\s:]+)")
@@ -54,7 +56,8 @@ def named(text, is_code):
 
 def words(text):
     """The words of a text without its comments, with and without what is attached by a dot."""
-    return re.findall(r"[^\s(){},;.]+", COMMENT.sub("", text))
+    text = TACTIC.sub(lambda found: found.group().replace("::", " "), COMMENT.sub("", text))
+    return re.findall(r"[^\s(){},;.]+", text)
 
 
 def idle(text, is_code):

@@ -1,17 +1,17 @@
 -- From what was loaded to the answers by value: the rows of a table that is fine can be answered, and what is
 -- answered of them is the table's answer.
 -- Assumes nothing.
-use Rattle.std.proofs.Common.{ℕ, ◌≤◌, arith, ◌≡◌, sym, ap, subst, ◌∙◌, Bool, List}
+use Rattle.std.proofs.Common.{ℕ, ◌≤◌, arith, ◌≡◌, sym, ap, subst, ◌∙◌, Bool, List, Result, Ok}
+use Rattle.base.specs.Rows.{at}
 use Rattle.table.specs.declared.Table.{Table}
-use Rattle.table.specs.declared.Checked.{Checked}
-use Rattle.table.specs.declared.Checked.TheVariants.{Fine}
-use Rattle.table.specs.Table.{LegalTable}
-use Rattle.table.specs.Checks.{check_of}
+use Rattle.table.specs.declared.Refusal.{Refusal}
+use Rattle.table.specs.Checks.{Checked, check_of}
+use Rattle.table.specs.Table.{flags_of, LegalTable}
 use Rattle.table.proofs.TableLaws.{fine_legal}
 use Rattle.flags.specs.declared.Flags.{Flags}
 use Rattle.flags.specs.Words.{word_of}
-use Rattle.flags.specs.Flags.{flag_in}
-use Rattle.rows.proofs.HeldLaws.{table_rows}
+use Rattle.flags.specs.Flags.{flag_in, held}
+use Rattle.rows.specs.declared.Rows.{Rows}
 use Rattle.forcing.proofs.TableLaws.{given_held}
 use Rattle.lines.specs.Reads.{read_of}
 use Rattle.lines.proofs.Theorems.{read_legal}
@@ -24,52 +24,53 @@ use Rattle.planner.proofs.CountLaws.{Small}
 use Rattle.words.specs.Word.{word_of_done}
 use Rattle.words.proofs.WordLaws.{said_word}
 use Rattle.flat.specs.Flat.{flat_after}
-use Rattle.loading.specs.declared.Loaded.{Loaded}
-use Rattle.loading.specs.Loaded.{LoadedAs}
+use Rattle.loading.specs.Loaded.{said_of, LoadedAs}
 use Rattle.row_reader.specs.RowsRead.{PlanLoaded}
 use Rattle.flat_tasks.specs.FlatTasks.{table_in}
 use Rattle.row_list.specs.ListLoaded.{ListLoaded}
+use Rattle.asked.proofs.SaidLaws.{said_fine}
 use Rattle.asked.specs.Asked.{Answerable, AnsweredBy, found_done, Answered, AskedAs}
 
-module _ {found : Checked} {t : Table} {r : Loaded} {is rs cs js : List ℕ}
-    (loaded : LoadedAs found t r is rs cs js) (legal : found ≡ Fine → LegalTable t) where
-  said_fine : r.answer ≡ Fine → found ≡ Fine
-  said_fine fine = sym loaded.answer ∙ fine
+module _ {found : Checked} {t : Table} {r : Result Flags Refusal} {x : Rows} (loaded : LoadedAs found t r x)
+    (legal : found ≡ Ok tt → LegalTable t) where
+  found_fine : said_of r ≡ Ok tt → found ≡ Ok tt
+  found_fine fine = sym loaded.answer ∙ fine
 
-  loaded_rows : Answerable r is rs cs js
-  loaded_rows fine =
-      let f = said_fine fine in
-      (table_rows (legal f) (loaded.rows f), given_held (legal f) (loaded.given f) (loaded.rows f).n)
+  loaded_rows : Answerable r x
+  loaded_rows given e =
+      let f = found_fine (said_fine e) in
+      let sent : given ≡ held (at (flags_of t)) t.n = let i = loaded.given f in cc in
+      given_held (legal f) sent (loaded.rows f).n
 
-  loaded_by : {A : Type 0} (f : Checked → Table → A) {d : A} → AnsweredBy f r is rs cs js d → d ≡ f found t
+  loaded_by : {A : Type 0} (f : Checked → Table → A) {d : A} → AnsweredBy f r x d → d ≡ f found t
   loaded_by f a =
-      a t (λ fine. legal (said_fine fine))
-      (subst (λ (x : Checked). LoadedAs x t r is rs cs js) (sym loaded.answer) loaded)
-      ∙ ap (λ (x : Checked). f x t) loaded.answer
+      a t (λ fine. legal (found_fine fine))
+      (subst (λ (y : Checked). LoadedAs y t r x) (sym loaded.answer) loaded)
+      ∙ ap (λ (y : Checked). f y t) loaded.answer
 
-module _ (text : List ℕ) {r : Loaded} {is rs cs js : List ℕ} (loaded : PlanLoaded text r is rs cs js) where
-  pub plan_rows : Answerable r is rs cs js
+module _ (text : List ℕ) {r : Result Flags Refusal} {x : Rows} (loaded : PlanLoaded text r x) where
+  pub plan_rows : Answerable r x
   plan_rows = loaded_rows loaded (read_legal text)
 
-  pub plan_by : {A : Type 0} (f : Checked → Table → A) {d : A} → AnsweredBy f r is rs cs js d
+  pub plan_by : {A : Type 0} (f : Checked → Table → A) {d : A} → AnsweredBy f r x d
       → d ≡ f (read_of text).answer (read_of text).table
   plan_by f a = loaded_by loaded (read_legal text) f a
 
-  pub plan_is : (job : Job) (room : ℕ) {d : Done} → Answered job room r is rs cs js d
+  pub plan_is : (job : Job) (room : ℕ) {d : Done} → Answered job room r x d
       → d ≡ plan_done text job room
   unfolding plan_done
   plan_is job room a = plan_by (found_done job room) a
 
-module _ (levels : Bool) (cores policy : ℕ) (xs : List ℕ) {r : Loaded} {is rs cs js : List ℕ}
-    (loaded : ListLoaded levels cores policy xs r is rs cs js) where
-  pub list_rows : Answerable r is rs cs js
+module _ (levels : Bool) (cores policy : ℕ) (xs : List ℕ) {r : Result Flags Refusal} {x : Rows}
+    (loaded : ListLoaded levels cores policy xs r x) where
+  pub list_rows : Answerable r x
   list_rows = loaded_rows loaded fine_legal
 
-  pub list_by : {A : Type 0} (f : Checked → Table → A) {d : A} → AnsweredBy f r is rs cs js d
+  pub list_by : {A : Type 0} (f : Checked → Table → A) {d : A} → AnsweredBy f r x d
       → d ≡ f (check_of (table_in levels cores policy xs)) (table_in levels cores policy xs)
   list_by f a = loaded_by loaded fine_legal f a
 
-  pub list_is : (job : Job) (room : ℕ) {d : Done} → Answered job room r is rs cs js d
+  pub list_is : (job : Job) (room : ℕ) {d : Done} → Answered job room r x d
       → d
       ≡ list_done cores policy (table_in levels cores policy xs).n (table_in levels cores policy xs).tasks job
       room

@@ -1,32 +1,42 @@
 -- An answer from rows and flags is that of the table that was loaded, and its records are written one by one
 -- from flags and bounds.
 -- Assumes nothing.
-use Rattle.std.proofs.Common.{ℕ, ◌+◌, ◌*◌, ◌≤◌, ◌<◌, arith, ◌≡◌, sym, ap₂, subst, ◌∙◌, true, List}
+use Rattle.std.proofs.Common.{ℕ, ◌+◌, ◌*◌, ◌≤◌, ◌<◌, arith, ◌≡◌, sym, ap, ap₂, subst, ◌∙◌, true, List}
+use Rattle.std.proofs.Common.{Result, Ok, Err}
 use Rattle.base.specs.Rows.{at}
 use Rattle.base.proofs.RowLaws.{row_at, row_length}
 use Rattle.buffer.specs.Put.{Put}
 use Rattle.table.specs.declared.Table.{Table}
 use Rattle.table.specs.declared.Refusal.{Refusal}
-use Rattle.table.specs.declared.Checked.{Checked}
-use Rattle.table.specs.declared.Checked.TheVariants.{Fine, Refused as Faulty}
 use Rattle.flags.specs.declared.Flags.{Flags}
 use Rattle.flags.specs.Flags.{flag_in, changed}
 use Rattle.planner.specs.declared.Done.{Done}
 use Rattle.planner.specs.declared.Job.{Job}
 use Rattle.planner.specs.declared.Record.{Record}
+use Rattle.planner.specs.declared.Said.{Said}
 use Rattle.planner.specs.Answers.{given, entry, no_record, record_at, records_of, changes}
-use Rattle.planner.specs.Done.{finish, refuse, room_done, unless_faulty}
+use Rattle.planner.specs.Done.{finish, refuse, room_done}
+use Rattle.planner.specs.Rows.{said_done}
+use Rattle.loading.specs.Loaded.{said_of}
+use Rattle.asked.specs.Asked.{given_in, found_done}
 use Rattle.flat.specs.Flat.{record_numbers}
 use Rattle.flat.proofs.FlatLaws.{Putting, putting_step}
 
 -- by what the checks, or the reading, say
-module _ {found : Checked} (t : Table) (job : Job) (room : ℕ) {d : Done} where
-  pub fine_room : found ≡ Fine → d ≡ room_done t job room → d ≡ unless_faulty found (room_done t job room)
+module _ {r : Result Flags Refusal} (t : Table) (job : Job) (room : ℕ) (s : Said) (bounds : List ℕ) where
+  pub fine_room : {sent : Flags} → r ≡ Ok sent → said_done sent s bounds ≡ room_done t job room
+      → said_done (given_in r) s bounds ≡ found_done job room (said_of r) t
   fine_room fine e = rw fine e
 
-  pub faulty_room : {why : Refusal} → found ≡ Faulty why → d ≡ refuse why 0
-      → d ≡ unless_faulty found (room_done t job room)
+  pub faulty_room : {why : Refusal} → r ≡ Err why → said_done (record { word = 0 }) s bounds ≡ refuse why 0
+      → said_done (given_in r) s bounds ≡ found_done job room (said_of r) t
   faulty_room fault e = rw fault e
+
+pub said_fine : {r : Result Flags Refusal} {sent : Flags} → r ≡ Ok sent → said_of r ≡ Ok tt
+said_fine e = ap said_of e
+
+pub sent_given : {r : Result Flags Refusal} {a b : Flags} → r ≡ Ok a → r ≡ Ok b → a ≡ b
+sent_given e f = cc
 
 -- n records of flags and bounds; what the answer says besides does not matter to them
 abbrev pub listed : ℕ → Flags → Flags → List ℕ → Done

@@ -5,12 +5,12 @@
 ghost use Rattle.std.specs.Prelude.{◌≡◌, length, replicate};
 ghost use Rattle.flat.specs.Flat.{flat_after, Fits};
 ghost use Rattle.planner.specs.Rows.{said_done};
-ghost use Rattle.asked.specs.Asked.{Answerable, Answered, PlanAsked, TasksAsked};
+ghost use Rattle.asked.specs.Asked.{given_in, Answerable, Answered, PlanAsked, TasksAsked};
 
-use flags::Flags;
-use loading::Loaded;
+use flags::{Flags, NO_FLAGS};
 use planner::{Answer, Job, Record, Said};
-use table::{Checked, Refusal};
+use rows::{NO_ROWS, Rows};
+use table::Refusal;
 
 // An answer, how many records were written, and their flags in one word.
 #[derive(Clone, Copy)]
@@ -26,52 +26,40 @@ pub fn put_said(out: &mut [u32], given: Flags, said: Said, bounds: &[u32; 32])
     ensures { out.new ≡ flat_after (said_done given said bounds.now)
         out.old }
 {
-    let n = said.count;
-    let last = said.flags;
-    let mut i: usize = 0;
-    while i < n {
-        let flag = flags::flag_at(last, i);
+    for i in 0..said.count {
+        let flag = flags::flag_at(said.flags, i);
         let forced = flags::change(flags::flag_at(given, i), flag);
         let one = Record {
-            flag: flag,
-            forced: forced,
+            flag,
+            forced,
             bound: bounds[i],
         };
         flat::put_record(out, i, one);
-        i += 1;
     }
 }
 
 // What is loaded is answered: its fault, 13 where there is too little room, or what the job says of it.
-pub fn answered<'a>(
+pub fn answered(
     job: Job,
     room: usize,
-    loaded: Loaded,
-    inverse: &'a [u64; 32],
-    rest: &'a [u32; 32],
-    cost: &'a [u32; 32],
-    reach: &'a [u32; 32],
-    bounds: &'a mut [u32; 32],
+    loaded: Result<Flags, Refusal>,
+    rows: &Rows,
+    bounds: &mut [u32; 32],
 ) -> Said
-    requires { (Answerable loaded inverse.now rest.now cost.now reach.now)
-        × (bounds.old ≡ replicate 32 0) }
-    ensures { Answered job room loaded inverse.now rest.now cost.now
-        reach.now (said_done loaded.given result bounds.new) }
+    requires { (Answerable loaded rows.now) × (bounds.old ≡ replicate 32 0) }
+    ensures { Answered job room loaded rows.now (said_done (given_in loaded) result bounds.new) }
 {
-    let found = loaded.answer;
-    let head = loaded.head;
-    let given = loaded.given;
-    match found {
-        Checked::Refused(why) => planner::unsaid(why, 0, given),
-        Checked::Fine => {
-            if room < head.n {
+    match loaded {
+        Err(why) => planner::unsaid(why, 0, NO_FLAGS),
+        Ok(given) => {
+            if room < rows.head.n {
                 let why = Refusal {
                     number: 13,
                     place: 0,
                 };
                 return planner::unsaid(why, 0, given);
             }
-            planner::rows_said(job, head, inverse, rest, cost, reach, given, bounds)
+            planner::rows_said(job, rows, given, bounds)
         }
     }
 }
@@ -80,32 +68,15 @@ pub fn answered<'a>(
 pub fn plan_asked(job: Job, text: &[u8], records: &mut [u32]) -> Asked
     ensures { PlanAsked job text.now records.old result records.new }
 {
-    let room = records.len() / 3;
-    let mut inverse = [0u64; 32];
-    let mut rest = [0u32; 32];
-    let mut cost = [0u32; 32];
-    let mut reach = [0u32; 32];
+    let mut rows = NO_ROWS;
     let mut bounds = [0u32; 32];
-    let loaded = row_reader::load_plan(text, &mut inverse, &mut rest, &mut cost, &mut reach);
-    let given = loaded.given;
-    let said = answered(
-        job,
-        room,
-        loaded,
-        &inverse,
-        &rest,
-        &cost,
-        &reach,
-        &mut bounds,
-    );
-    let answer = said.answer;
-    let count = said.count;
-    let last = said.flags;
-    put_said(records, given, said, &bounds);
+    let loaded = row_reader::load_plan(text, &mut rows);
+    let said = answered(job, records.len() / 3, loaded, &rows, &mut bounds);
+    put_said(records, loaded.unwrap_or(NO_FLAGS), said, &bounds);
     Asked {
-        answer: answer,
-        count: count,
-        word: flags::word_of(last, count),
+        answer: said.answer,
+        count: said.count,
+        word: flags::word_of(said.flags, said.count),
     }
 }
 
@@ -121,40 +92,14 @@ pub fn tasks_asked(
     ensures { TasksAsked levels job cores policy tasks.now records.old result
         records.new }
 {
-    let room = records.len() / 3;
-    let mut inverse = [0u64; 32];
-    let mut rest = [0u32; 32];
-    let mut cost = [0u32; 32];
-    let mut reach = [0u32; 32];
+    let mut rows = NO_ROWS;
     let mut bounds = [0u32; 32];
-    let loaded = row_list::load_list(
-        cores,
-        policy,
-        levels,
-        tasks,
-        &mut inverse,
-        &mut rest,
-        &mut cost,
-        &mut reach,
-    );
-    let given = loaded.given;
-    let said = answered(
-        job,
-        room,
-        loaded,
-        &inverse,
-        &rest,
-        &cost,
-        &reach,
-        &mut bounds,
-    );
-    let answer = said.answer;
-    let count = said.count;
-    let last = said.flags;
-    put_said(records, given, said, &bounds);
+    let loaded = row_list::load_list(cores, policy, levels, tasks, &mut rows);
+    let said = answered(job, records.len() / 3, loaded, &rows, &mut bounds);
+    put_said(records, loaded.unwrap_or(NO_FLAGS), said, &bounds);
     Asked {
-        answer: answer,
-        count: count,
-        word: flags::word_of(last, count),
+        answer: said.answer,
+        count: said.count,
+        word: flags::word_of(said.flags, said.count),
     }
 }

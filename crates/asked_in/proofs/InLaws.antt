@@ -1,15 +1,12 @@
 -- What is loaded is answered under either edition as the answers by value are.
 -- Assumes nothing.
-use Rattle.std.proofs.Common.{ℕ, ◌≤◌, ◌<◌, ◌≡◌, ap, ◌∙◌, Bool, List}
+use Rattle.std.proofs.Common.{ℕ, ◌≤◌, ◌<◌, ◌≡◌, ap, ◌∙◌, Bool, List, Result, Ok, Err}
 use Rattle.table.specs.declared.Table.{Table}
 use Rattle.table.specs.declared.Refusal.{Refusal}
-use Rattle.table.specs.declared.Checked.{Checked}
-use Rattle.table.specs.declared.Checked.TheVariants.{Fine, Refused as Faulty}
-use Rattle.table.specs.Checks.{refusal}
+use Rattle.table.specs.Checks.{Checked, refusal}
 use Rattle.flags.specs.declared.Flags.{Flags}
 use Rattle.flags.specs.Words.{word_of}
 use Rattle.flags.specs.Flags.{flag_in}
-use Rattle.planner.specs.declared.Done.{Done}
 use Rattle.planner.specs.declared.Job.{Job}
 use Rattle.planner.specs.Done.{refuse, plan_done, list_done}
 use Rattle.planner.specs.Rows.{said_done}
@@ -23,28 +20,32 @@ use Rattle.editions.specs.declared.Edition.TheVariants.{First, Second}
 use Rattle.editions.specs.Editions.{room_second, plan_second, list_second, plan_in, list_in}
 use Rattle.editions.proofs.StageLaws.{second_short, second_enough}
 use Rattle.flat.specs.Flat.{flat_after}
-use Rattle.loading.specs.declared.Loaded.{Loaded}
+use Rattle.rows.specs.declared.Rows.{Rows}
+use Rattle.planner.specs.declared.Said.{Said}
+use Rattle.loading.specs.Loaded.{said_of}
 use Rattle.row_reader.specs.RowsRead.{PlanLoaded}
 use Rattle.flat_tasks.specs.FlatTasks.{table_in}
 use Rattle.row_list.specs.ListLoaded.{ListLoaded}
-use Rattle.asked.specs.Asked.{AnsweredBy, found_done}
+use Rattle.asked.specs.Asked.{given_in, AnsweredBy, found_done}
 use Rattle.asked.proofs.AskedLaws.{plan_by, list_by, few_said, asked_as}
 use Rattle.asked_in.specs.AskedIn.{found_second, found_in, AskedAsIn}
 
 -- by what the checks, or the reading, say: a fault, 13, or what the second edition says of the table
-module _ {found : Checked} (t : Table) (job : Job) (room : ℕ) where
-  pub second_faulty : {why : Refusal} {d : Done} → found ≡ Faulty why → d ≡ refuse why 0
-      → unrounded d ≡ found_second job room found t
+module _ {r : Result Flags Refusal} (t : Table) (job : Job) (room : ℕ) (s : Said) (bounds : List ℕ) where
+  pub second_faulty : {why : Refusal} → r ≡ Err why → said_done (record { word = 0 }) s bounds ≡ refuse why 0
+      → unrounded (said_done (given_in r) s bounds) ≡ found_second job room (said_of r) t
   unfolding found_second
   second_faulty fault e = rw fault (ap unrounded e)
 
-  pub second_full : {d : Done} → found ≡ Fine → d ≡ refuse (refusal 13 0) 0 → room < t.n
-      → unrounded d ≡ found_second job room found t
+  pub second_full : {sent : Flags} → r ≡ Ok sent → said_done sent s bounds ≡ refuse (refusal 13 0) 0
+      → room < t.n → unrounded (said_done (given_in r) s bounds) ≡ found_second job room (said_of r) t
   unfolding found_second room_second
   second_full fine e short = rw fine (ap unrounded e ∙ second_short t job room short)
 
-  pub second_fine : {r : Rounded} → found ≡ Fine → r ≡ legal_second t job → t.n ≤ room
-      → r ≡ found_second job room found t
+module _ {r : Result Flags Refusal} (t : Table) (job : Job) (room : ℕ) (s : RoundsSaid)
+    (bounds : List ℕ) where
+  pub second_fine : {sent : Flags} → r ≡ Ok sent → said_rounded sent s bounds ≡ legal_second t job
+      → t.n ≤ room → said_rounded (given_in r) s bounds ≡ found_second job room (said_of r) t
   unfolding found_second room_second
   second_fine fine e enough = rw fine (e ∙ second_enough t job room enough)
 
@@ -59,17 +60,17 @@ module _ {e : Edition} (job : Job) (room : ℕ) (found : Checked) (t : Table) {r
   found_second_lem is q = rw is q
 
 -- of a plan, and of a flat table
-module _ (text : List ℕ) {l : Loaded} {is rs cs js : List ℕ} (loaded : PlanLoaded text l is rs cs js) where
+module _ (text : List ℕ) {l : Result Flags Refusal} {x : Rows} (loaded : PlanLoaded text l x) where
   pub plan_found : (e : Edition) (job : Job) (room : ℕ) {r : Rounded}
-      → AnsweredBy (found_in e job room) l is rs cs js r → r ≡ plan_in e text job room
+      → AnsweredBy (found_in e job room) l x r → r ≡ plan_in e text job room
   unfolding found_in found_second plan_in plan_second plan_done
   plan_found First job room a = plan_by text loaded (found_in First job room) a
   plan_found Second job room a = plan_by text loaded (found_in Second job room) a
 
-module _ (levels : Bool) (cores policy : ℕ) (xs : List ℕ) {l : Loaded} {is rs cs js : List ℕ}
-    (loaded : ListLoaded levels cores policy xs l is rs cs js) where
+module _ (levels : Bool) (cores policy : ℕ) (xs : List ℕ) {l : Result Flags Refusal} {x : Rows}
+    (loaded : ListLoaded levels cores policy xs l x) where
   pub list_found : (e : Edition) (job : Job) (room : ℕ) {r : Rounded}
-      → AnsweredBy (found_in e job room) l is rs cs js r
+      → AnsweredBy (found_in e job room) l x r
       → r
       ≡ list_in e cores policy (table_in levels cores policy xs).n (table_in levels cores policy xs).tasks job
       room

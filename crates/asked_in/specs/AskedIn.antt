@@ -7,7 +7,7 @@
 -- Assumes nothing.
 use Rattle.std.specs.Prelude.{ℕ, ◌/◌, ◌≡◌, Bool, List, length}
 use Rattle.table.specs.declared.Table.{Table}
-use Rattle.table.specs.declared.Checked.{Checked}
+use Rattle.table.specs.Checks.{Checked}
 use Rattle.planner.specs.declared.Job.{Job}
 use Rattle.planner.specs.Done.{roomed, unless_faulty}
 use Rattle.edition_2.specs.declared.Rounded.{Rounded}

@@ -4,15 +4,16 @@
 
 ghost use Rattle.std.specs.Prelude.{◌≡◌, replicate};
 ghost use Rattle.edition_2.specs.Rows.{said_rounded};
-ghost use Rattle.asked.specs.Asked.{Answerable, AnsweredBy};
+ghost use Rattle.asked.specs.Asked.{given_in, Answerable, AnsweredBy};
 ghost use Rattle.asked_in.specs.AskedIn.{found_second, found_in, PlanAskedIn, TasksAskedIn};
 
 use asked::Asked;
 use edition_2::RoundsSaid;
 use editions::Edition;
-use loading::Loaded;
+use flags::{Flags, NO_FLAGS};
 use planner::Job;
-use table::{Checked, Refusal};
+use rows::{NO_ROWS, Rows};
+use table::Refusal;
 
 // An answer, how many records were written, and the round count of the last test.
 #[derive(Clone, Copy)]
@@ -23,31 +24,24 @@ pub struct AskedIn {
 
 // What is loaded is answered by the second edition: its fault, 13 where there is too little room, or what the
 // job says of it.
-fn answered_second<'a>(
+fn answered_second(
     job: Job,
     room: usize,
-    loaded: Loaded,
-    inverse: &'a [u64; 32],
-    rest: &'a [u32; 32],
-    cost: &'a [u32; 32],
-    reach: &'a [u32; 32],
-    bounds: &'a mut [u32; 32],
+    loaded: Result<Flags, Refusal>,
+    rows: &Rows,
+    bounds: &mut [u32; 32],
 ) -> RoundsSaid
-    requires { (Answerable loaded inverse.now rest.now cost.now reach.now)
-        × (bounds.old ≡ replicate 32 0) }
-    ensures { AnsweredBy (found_second job room) loaded inverse.now rest.now
-        cost.now reach.now (said_rounded loaded.given result bounds.new) }
+    requires { (Answerable loaded rows.now) × (bounds.old ≡ replicate 32 0) }
+    ensures { AnsweredBy (found_second job room) loaded rows.now
+        (said_rounded (given_in loaded) result bounds.new) }
 {
-    let found = loaded.answer;
-    let head = loaded.head;
-    let given = loaded.given;
-    match found {
-        Checked::Refused(why) => RoundsSaid {
-            said: planner::unsaid(why, 0, given),
+    match loaded {
+        Err(why) => RoundsSaid {
+            said: planner::unsaid(why, 0, NO_FLAGS),
             rounds: 0,
         },
-        Checked::Fine => {
-            if room < head.n {
+        Ok(given) => {
+            if room < rows.head.n {
                 let why = Refusal {
                     number: 13,
                     place: 0,
@@ -57,36 +51,30 @@ fn answered_second<'a>(
                     rounds: 0,
                 };
             }
-            edition_2::rows_second(job, head, inverse, rest, cost, reach, given, bounds)
+            edition_2::rows_second(job, rows, given, bounds)
         }
     }
 }
 
 // The same by either edition.
-fn answered_in<'a>(
+fn answered_in(
     edition: Edition,
     job: Job,
     room: usize,
-    loaded: Loaded,
-    inverse: &'a [u64; 32],
-    rest: &'a [u32; 32],
-    cost: &'a [u32; 32],
-    reach: &'a [u32; 32],
-    bounds: &'a mut [u32; 32],
+    loaded: Result<Flags, Refusal>,
+    rows: &Rows,
+    bounds: &mut [u32; 32],
 ) -> RoundsSaid
-    requires { (Answerable loaded inverse.now rest.now cost.now reach.now)
-        × (bounds.old ≡ replicate 32 0) }
-    ensures { AnsweredBy (found_in edition job room) loaded inverse.now rest.now
-        cost.now reach.now (said_rounded loaded.given result bounds.new) }
+    requires { (Answerable loaded rows.now) × (bounds.old ≡ replicate 32 0) }
+    ensures { AnsweredBy (found_in edition job room) loaded rows.now
+        (said_rounded (given_in loaded) result bounds.new) }
 {
     match edition {
         Edition::First => RoundsSaid {
-            said: asked::answered(job, room, loaded, inverse, rest, cost, reach, bounds),
+            said: asked::answered(job, room, loaded, rows, bounds),
             rounds: 0,
         },
-        Edition::Second => {
-            answered_second(job, room, loaded, inverse, rest, cost, reach, bounds)
-        }
+        Edition::Second => answered_second(job, room, loaded, rows, bounds),
     }
 }
 
@@ -95,39 +83,18 @@ pub fn plan_asked_in(edition: Edition, job: Job, text: &[u8], records: &mut [u32
     ensures { PlanAskedIn edition job text.now records.old result
         records.new }
 {
-    let room = records.len() / 3;
-    let mut inverse = [0u64; 32];
-    let mut rest = [0u32; 32];
-    let mut cost = [0u32; 32];
-    let mut reach = [0u32; 32];
+    let mut rows = NO_ROWS;
     let mut bounds = [0u32; 32];
-    let loaded = row_reader::load_plan(text, &mut inverse, &mut rest, &mut cost, &mut reach);
-    let given = loaded.given;
-    let told = answered_in(
-        edition,
-        job,
-        room,
-        loaded,
-        &inverse,
-        &rest,
-        &cost,
-        &reach,
-        &mut bounds,
-    );
-    let said = told.said;
-    let answer = said.answer;
-    let count = said.count;
-    let last = said.flags;
-    asked::put_said(records, given, said, &bounds);
+    let loaded = row_reader::load_plan(text, &mut rows);
+    let room = records.len() / 3;
+    let RoundsSaid { said, rounds } = answered_in(edition, job, room, loaded, &rows, &mut bounds);
+    asked::put_said(records, loaded.unwrap_or(NO_FLAGS), said, &bounds);
     let asked = Asked {
-        answer: answer,
-        count: count,
-        word: flags::word_of(last, count),
+        answer: said.answer,
+        count: said.count,
+        word: flags::word_of(said.flags, said.count),
     };
-    AskedIn {
-        asked: asked,
-        rounds: told.rounds,
-    }
+    AskedIn { asked, rounds }
 }
 
 // The job on cores, policy and a flat table: five numbers to a task where the levels are given, else four.
@@ -143,46 +110,16 @@ pub fn tasks_asked_in(
     ensures { TasksAskedIn levels edition job cores policy tasks.now
         records.old result records.new }
 {
-    let room = records.len() / 3;
-    let mut inverse = [0u64; 32];
-    let mut rest = [0u32; 32];
-    let mut cost = [0u32; 32];
-    let mut reach = [0u32; 32];
+    let mut rows = NO_ROWS;
     let mut bounds = [0u32; 32];
-    let loaded = row_list::load_list(
-        cores,
-        policy,
-        levels,
-        tasks,
-        &mut inverse,
-        &mut rest,
-        &mut cost,
-        &mut reach,
-    );
-    let given = loaded.given;
-    let told = answered_in(
-        edition,
-        job,
-        room,
-        loaded,
-        &inverse,
-        &rest,
-        &cost,
-        &reach,
-        &mut bounds,
-    );
-    let said = told.said;
-    let answer = said.answer;
-    let count = said.count;
-    let last = said.flags;
-    asked::put_said(records, given, said, &bounds);
+    let loaded = row_list::load_list(cores, policy, levels, tasks, &mut rows);
+    let room = records.len() / 3;
+    let RoundsSaid { said, rounds } = answered_in(edition, job, room, loaded, &rows, &mut bounds);
+    asked::put_said(records, loaded.unwrap_or(NO_FLAGS), said, &bounds);
     let asked = Asked {
-        answer: answer,
-        count: count,
-        word: flags::word_of(last, count),
+        answer: said.answer,
+        count: said.count,
+        word: flags::word_of(said.flags, said.count),
     };
-    AskedIn {
-        asked: asked,
-        rounds: told.rounds,
-    }
+    AskedIn { asked, rounds }
 }

@@ -14,13 +14,7 @@ use flags::Flags;
 use rows::Head;
 
 // Keeps the candidates of task k that count, the m largest, as they are at every length.
-pub fn keep_blocking<'a>(
-    head: Head,
-    cost: &'a [u32; 32],
-    flags: Flags,
-    k: usize,
-    cap: &'a mut [u32; 32],
-)
+pub fn keep_blocking(head: Head, cost: &[u32; 32], flags: Flags, k: usize, cap: &mut [u32; 32])
     requires { (head.n ≤ 32) × (k < head.n) × ((i : ℕ) → i < head.n → 1 ≤ at cost.now i)
         × (cap.old ≡ replicate 32 0) }
     ensures { (length cap.new ≡ 32)

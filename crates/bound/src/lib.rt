@@ -7,11 +7,11 @@
 ghost use Rattle.std.specs.Prelude.{◌≡◌, ◌-◌, ◌<◌};
 ghost use Rattle.model.specs.Bound.{by_flag, bound};
 ghost use Rattle.flags.specs.Flags.{flag_in};
-ghost use Rattle.rows.specs.Held.{system_in, LegalRows};
+ghost use Rattle.rows.specs.Whole.{system_held};
 ghost use Rattle.bound.specs.Ahead.{NoneSooner};
 
 use flags::Flags;
-use rows::Head;
+use rows::Rows;
 
 // How much longer than q a length is: C - 1 for a preemptive task, nothing for a non-preemptive one.
 pub fn ahead_of(flag: u32, cost: u32) -> u32
@@ -23,28 +23,26 @@ pub fn ahead_of(flag: u32, cost: u32) -> u32
 
 // The bound of task k under these flags, and 0 where it has none. No q below `from` is enough; a `from` of 0
 // says nothing.
-pub fn bound_of<'a>(
-    head: Head,
-    inverse: &'a [u64; 32],
-    rest: &'a [u32; 32],
-    cost: &'a [u32; 32],
-    reach: &'a [u32; 32],
-    flags: Flags,
-    k: usize,
-    from: u32,
-) -> u32
-    requires { (LegalRows head inverse.now rest.now cost.now reach.now) × (k < head.n)
-        × (NoneSooner (system_in head rest.now cost.now reach.now) (flag_in flags) k from) }
-    ensures { result ≡ bound (system_in head rest.now cost.now reach.now)
+pub fn bound_of(rows: &Rows, flags: Flags, k: usize, from: u32) -> u32
+    requires { (k < rows.now.head.n)
+        × (NoneSooner (system_held rows.now) (flag_in flags) k from) }
+    ensures { result ≡ bound (system_held rows.now)
         (flag_in flags) k }
 {
     let mut cap = [0u32; 32];
-    let used = caps::caps_of(head, inverse, rest, cost, reach, flags, k, &mut cap);
-    let own = cost[k];
+    let used = caps::caps_of(rows, flags, k, &mut cap);
+    let own = rows.times.cost[k];
     let ahead = ahead_of(flags::flag_at(flags, k), own);
-    let last = reach[k] + 1;
+    let last = rows.reach[k] + 1;
     let q = search::least_q(
-        inverse, rest, cost, reach, &cap, used, head.cores, ahead, from, last,
+        &rows.times,
+        &rows.reach,
+        &cap,
+        used,
+        rows.head.cores,
+        ahead,
+        from,
+        last,
     );
     if q == 0 {
         return 0;

@@ -64,10 +64,6 @@ module _ {s : List ℕ} {at : ℕ} {x : List ℕ} {r : ℕ} {s' : List ℕ} (p :
           ∙ drop-drop (length y) r s
           ∙ ap (λ n. drop n s) further
 
-  -- the room that is left for what comes after the first word
-  pub put_room : (y : List ℕ) → at + length (x ++ y) ≤ length s → r + length y ≤ length s'
-  put_room y h = omega (arith, length-append x y, p.next, put_length)
-
 -- from the start of a buffer
 pub put_start : {s w s' : List ℕ} {r : ℕ} → Put s 0 w r s' → (r ≡ length w) × (s' ≡ w ++ drop (length w) s)
 put_start {s} {w} p =

@@ -13,6 +13,7 @@ use flags::Flags;
 use rows::Levels;
 
 // C - 1 of a lower non-preemptive task, and 0 of any other.
+#[tactic(auto, using(crate::proofs::Lines::block_lines))]
 fn block_for(fi: u32, higher: bool, cost: u32) -> u32
     requires { 1 ≤ cost }
     ensures { result ≡ block_for FP 0 fi higher cost }
@@ -24,24 +25,22 @@ fn block_for(fi: u32, higher: bool, cost: u32) -> u32
 }
 
 // The candidates of a non-preemptive task k under FP.
-pub fn candidates<'a>(
+pub fn candidates(
     n: usize,
     levels: Levels,
-    cost: &'a [u32; 32],
+    cost: &[u32; 32],
     flags: Flags,
     k: usize,
-    x: &'a mut [u32; 32],
+    x: &mut [u32; 32],
 )
     requires { (n ≤ 32) × (k < n) × ((i : ℕ) → i < n → 1 ≤ at cost.now i) × (length x.old ≡ 32) }
     ensures { (i : ℕ) → i < n
         → at x.new i
         ≡ candidate_in (higher_at levels) (at cost.now) (flag_in flags) k i }
 {
-    let mut i: usize = 0;
-    while i < n {
+    for i in 0..n {
         let fi = flags::flag_at(flags, i);
         x[i] = block_for(fi, rows::higher(levels, k, i), cost[i]);
-        i += 1;
     }
     x[k] = 0;
 }

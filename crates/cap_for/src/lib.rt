@@ -9,6 +9,7 @@ ghost use Rattle.cap_for.specs.CapFor.{cap_for};
 
 // The cap of a share besides q: none is 1,000,000, since q is never larger. E(k,i) is the work in a window of
 // k's deadline.
+#[tactic(auto, using(crate::proofs::Lines::cap_lines))]
 pub fn cap_for(
     policy: u32,
     fk: u32,

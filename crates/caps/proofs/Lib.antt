@@ -1,4 +1,3 @@
-pub mod UsedLaws
 pub mod CapLaws
 pub mod MadeLaws
 pub mod Unique

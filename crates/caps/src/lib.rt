@@ -6,39 +6,36 @@
 ghost use Rattle.std.specs.Prelude.{◌≡◌, ℕ, ◌≤◌, ◌<◌, length, replicate};
 ghost use Rattle.base.specs.Rows.{at};
 ghost use Rattle.flags.specs.Flags.{flag_in};
-ghost use Rattle.rows.specs.Held.{system_in, LegalRows};
+ghost use Rattle.rows.specs.Whole.{system_held};
 ghost use Rattle.caps.specs.Caps.{cap_in, Used, Caps};
 
 use flags::Flags;
-use rows::Head;
+use rows::Rows;
 
 // Adds the caps of what is summed, and takes task k itself out.
-fn add_caps<'a>(
-    head: Head,
-    inverse: &'a [u64; 32],
-    rest: &'a [u32; 32],
-    cost: &'a [u32; 32],
-    reach: &'a [u32; 32],
-    flags: Flags,
-    k: usize,
-    cap: &'a mut [u32; 32],
-)
-    requires { (LegalRows head inverse.now rest.now cost.now reach.now) × (k < head.n)
-        × (length cap.old ≡ 32) × ((i : ℕ) → i < head.n → at cap.old i ≤ 1000000) }
-    ensures { (i : ℕ) → i < head.n → at cap.new i
-        ≡ cap_in (system_in head rest.now cost.now reach.now) (flag_in flags) k
+fn add_caps(rows: &Rows, flags: Flags, k: usize, cap: &mut [u32; 32])
+    requires { (k < rows.now.head.n)
+        × (length cap.old ≡ 32) × ((i : ℕ) → i < rows.now.head.n → at cap.old i ≤ 1000000) }
+    ensures { (i : ℕ) → i < rows.now.head.n → at cap.new i
+        ≡ cap_in (system_held rows.now) (flag_in flags) k
         (at cap.old) i }
 {
-    let n = head.n;
     let fk = flags::flag_at(flags, k);
-    let due = reach[k] + cost[k];
-    let mut i: usize = 0;
-    while i < n {
+    let due = rows.reach[k] + rows.times.cost[k];
+    for i in 0..rows.head.n {
         let fi = flags::flag_at(flags, i);
-        let high = rows::higher(head.levels, k, i);
-        let most = cap_for::cap_for(head.policy, fk, fi, high, inverse[i], rest[i], cost[i], due);
-        cap[i] = most + cap[i];
-        i += 1;
+        let high = rows::higher(rows.head.levels, k, i);
+        let most = cap_for::cap_for(
+            rows.head.policy,
+            fk,
+            fi,
+            high,
+            rows.times.inverse[i],
+            rows.times.rest[i],
+            rows.times.cost[i],
+            due,
+        );
+        cap[i] += most;
     }
     cap[k] = 0;
 }
@@ -48,33 +45,22 @@ pub fn used_of(cap: &[u32; 32], n: usize) -> usize
     requires { n ≤ 32 }
     ensures { Used (at cap.now) n result }
 {
-    let mut used = n;
-    while 0 < used {
-        if cap[used - 1] != 0 {
-            return used;
+    for i in (0..n).rev() {
+        if cap[i] != 0 {
+            return i + 1;
         }
-        used -= 1;
     }
-    used
+    0
 }
 
 // Fills the caps of task k under these flags, and says how many of them count.
-pub fn caps_of<'a>(
-    head: Head,
-    inverse: &'a [u64; 32],
-    rest: &'a [u32; 32],
-    cost: &'a [u32; 32],
-    reach: &'a [u32; 32],
-    flags: Flags,
-    k: usize,
-    cap: &'a mut [u32; 32],
-) -> usize
-    requires { (LegalRows head inverse.now rest.now cost.now reach.now) × (k < head.n)
+pub fn caps_of(rows: &Rows, flags: Flags, k: usize, cap: &mut [u32; 32]) -> usize
+    requires { (k < rows.now.head.n)
         × (cap.old ≡ replicate 32 0) }
-    ensures { Caps (system_in head rest.now cost.now reach.now)
+    ensures { Caps (system_held rows.now)
         (flag_in flags) k cap.new result }
 {
-    blocking::keep_blocking(head, cost, flags, k, cap);
-    add_caps(head, inverse, rest, cost, reach, flags, k, cap);
-    used_of(cap, head.n)
+    blocking::keep_blocking(rows.head, &rows.times.cost, flags, k, cap);
+    add_caps(rows, flags, k, cap);
+    used_of(cap, rows.head.n)
 }

@@ -1,14 +1,14 @@
 -- The table with the flags of the records, turn by turn; and the stages of the answer, over plain values.
 -- Assumes nothing.
 use Rattle.std.proofs.Common.{ℕ, zero, suc, ◌+◌, ◌≤◌, ◌<◌, arith, ◌≡◌, refl, sym, ap, ◌∙◌, List, set}
-use Rattle.std.proofs.Common.{replicate}
+use Rattle.std.proofs.Common.{replicate, Ok, Err}
 use Rattle.base.specs.Choice.{or_else}
 use Rattle.base.specs.Rows.{at, row}
 use Rattle.base.proofs.RowLaws.{row_at, row_same, fill_start, fill_step, fill_end}
 use Rattle.table.specs.declared.Task.{Task}
 use Rattle.table.specs.declared.Table.{Table}
 use Rattle.table.specs.declared.Refusal.{Refusal}
-use Rattle.table.specs.declared.Checked.TheVariants.{Fine, Refused as Faulty}
+use Rattle.planner.specs.Answers.{stop, Answer, values_of, no_record, record_at, records_of, entry, changes}
 use Rattle.table.specs.Table.{no_task, task_at, LegalTable}
 use Rattle.lines.specs.declared.Reading.{Reading}
 use Rattle.lines.specs.Reads.{read_of}
@@ -16,19 +16,12 @@ use Rattle.lines.proofs.Theorems.{read_legal}
 use Rattle.planner.specs.declared.Record.{Record}
 use Rattle.planner.specs.declared.Done.{Done}
 use Rattle.planner.specs.declared.Verdict.{Verdict}
-use Rattle.planner.specs.declared.Answer.{Answer}
-use Rattle.planner.specs.declared.Answer.TheVariants.{Given, Refused as Stopped}
 use Rattle.planner.specs.declared.Job.TheVariants.{Force}
-use Rattle.planner.specs.Answers.{values_of, no_record, record_at, records_of, entry, changes}
 use Rattle.planner.specs.Done.{finish, refuse, sent, final, ended, failing, force_done, legal_done}
 use Rattle.planner.specs.Done.{plan_done}
 use Rattle.planner.proofs.StageLaws.{room_enough, plan_fine, plan_faulty}
-use Rattle.writer.specs.declared.Written.{Written}
-use Rattle.writer.specs.Written.{WroteAs}
-use Rattle.changer.specs.declared.Changed.{Changed}
-use Rattle.changer.specs.declared.Changed.TheVariants.{Refused}
-use Rattle.changer.specs.Changed.{with_flag, with_flags, changed_table, by_written, Changes, ForcedAs}
-use Rattle.changer.specs.Changed.{ChangedAs}
+use Rattle.changer.specs.Changed.{Changed, with_flag, with_flags, changed_table, Changes}
+use Rattle.changer.specs.Changed.{ForcedAs, ChangedAs}
 
 -- The loop: after i turns the first i tasks have the flags of the records.
 pub record Flagging (t : Table) (recs : List Record) (tasks : List Task) (i : ℕ) : Type 0 where
@@ -72,17 +65,17 @@ pub record Accepts (t : Table) (d : Done) : Type 0 where
   pub records : d.recs ≡ records_of t.n (ended t) (changes (sent t) (ended t)) (at (final t).bounds)
 
 accepted_case : (n x : ℕ) (a : Answer) (rs : List Record) (why : ℕ → Refusal) (passes : ℕ) {d : Done}
-    {v : Verdict} → d ≡ or_else x (finish n a rs) (λ k. refuse (why k) passes) → d.answer ≡ Given v
+    {v : Verdict} → d ≡ or_else x (finish n a rs) (λ k. refuse (why k) passes) → d.answer ≡ Ok v
     → (x ≡ 0) × (d.count ≡ n) × (d.recs ≡ rs)
 accepted_case n zero a rs why passes {v = v} e says =
-    let is : a ≡ Given v = sym (ap (λ (d : Done). d.answer) e) ∙ says in (
+    let is : a ≡ Ok v = sym (ap (λ (d : Done). d.answer) e) ∙ says in (
       refl,
       ap (λ (d : Done). d.count) e ∙ ap (λ (x : Answer). (values_of n x).written) is,
       ap (λ (d : Done). d.recs) e,
     )
 accepted_case n (suc k) a rs why passes e says = absurd (let z : ◌≡◌ {A = ℕ} 0 1 = cc in omega arith)
 
-pub accepts : {t : Table} {d : Done} {v : Verdict} → d ≡ legal_done t Force → d.answer ≡ Given v → Accepts t d
+pub accepts : {t : Table} {d : Done} {v : Verdict} → d ≡ legal_done t Force → d.answer ≡ Ok v → Accepts t d
 unfolding legal_done force_done
 accepts {t} e says =
     let c = accepted_case t.n (failing t (final t).bounds) _ _ _ _ e says in
@@ -99,17 +92,6 @@ record_flags {t} small a i l =
 
 -- The stages: what an answer writes, what forcing answers, and then what is read.
 module _ {a : Answer} {t : Table} {old : List ℕ} {at : ℕ} where
-  pub changes_written : {v : Verdict} {w : Written} {r : Changed} {new : List ℕ} → a ≡ Given v
-      → WroteAs t old at w new → r ≡ by_written w → Changes a t old at r new
-  changes_written says wrote q = record {
-    answer = rw says (q ∙ ap by_written wrote.answer);
-    bytes = rw says wrote.bytes;
-  }
-
-  pub changes_stopped : {why : Refusal} {passes : ℕ} → a ≡ Stopped why passes
-      → Changes a t old at (Refused why passes) old
-  changes_stopped says = record { answer = rw says; bytes = rw says }
-
   pub changes_of : {t' : Table} {r : Changed} {new : List ℕ} → t' ≡ t → Changes a t' old at r new
       → Changes a t old at r new
   changes_of is c = rw (← is) c
@@ -121,18 +103,18 @@ pub forced_table : {t : Table} {d : Done} {t' : Table} {old : List ℕ} {at : �
 forced_table {t} {d} {t'} {old} {at} {r} {new} e same = go d.answer refl
   where
     go : (a : Answer) → d.answer ≡ a → Changes d.answer t' old at r new → ForcedAs t old at r new
-    go (Given v) says c = rw (← e, ← same (accepts e says)) c
-    go (Stopped why passes) says c =
+    go (Ok v) says c = rw (← e, ← same (accepts e says)) c
+    go (Err s) says c =
         record {
           answer = rw (← e) (rw says (rw says at c.answer));
           bytes = rw (← e) (rw says (rw says at c.bytes));
         }
 
 module _ (text : List ℕ) {r : Reading} (e : r ≡ read_of text) where
-  pub text_legal : r.answer ≡ Fine → LegalTable r.table
+  pub text_legal : r.answer ≡ Ok tt → LegalTable r.table
   text_legal fine = rw e (read_legal text (rw e at fine))
 
-  pub text_forced : {old : List ℕ} {at : ℕ} {x : Changed} {new : List ℕ} → r.answer ≡ Fine
+  pub text_forced : {old : List ℕ} {at : ℕ} {x : Changed} {new : List ℕ} → r.answer ≡ Ok tt
       → ForcedAs r.table old at x new
       → ChangedAs text old at x new
   text_forced fine f =
@@ -141,8 +123,8 @@ module _ (text : List ℕ) {r : Reading} (e : r ≡ read_of text) where
       in
       rw (← done, ← e) f
 
-  pub text_faulty : {why : Refusal} {old : List ℕ} {at : ℕ} → r.answer ≡ Faulty why
-      → ChangedAs text old at (Refused why 0) old
+  pub text_faulty : {why : Refusal} {old : List ℕ} {at : ℕ} → r.answer ≡ Err why
+      → ChangedAs text old at (Err (stop why 0)) old
   text_faulty fault =
       let done = plan_faulty text e Force 32 fault in
       record { answer = rw (← done); bytes = rw (← done) }

@@ -1,31 +1,27 @@
 -- Document 02, Wish 8, of the table as changed: 18 is never answered, since a plan that is read has its
 -- places as levels, and forcing changes flags only. Assumes nothing.
-use Rattle.std.proofs.Common.{ℕ, arith, ◌≡◌, refl, sym, ap, ◌∙◌, List, length}
+use Rattle.std.proofs.Common.{ℕ, arith, ◌≡◌, refl, sym, ap, ◌∙◌, List, length, Ok, Err}
 use Rattle.table.specs.Checks.{refusal}
-use Rattle.planner.specs.declared.Answer.{Answer}
-use Rattle.planner.specs.declared.Answer.TheVariants.{Given, Refused as Stopped}
+use Rattle.planner.specs.Answers.{Answer, stop, values_of as answer_values}
 use Rattle.planner.specs.declared.Job.TheVariants.{Force}
-use Rattle.planner.specs.Answers.{values_of as answer_values}
 use Rattle.planner.specs.Done.{ended}
 use Rattle.planner.specs.Calls.{plan}
 use Rattle.planner.proofs.ValueLaws.{small_values}
 use Rattle.writer.specs.Written.{written_answer}
 use Rattle.writer.proofs.Theorems as writer
-use Rattle.changer.specs.declared.Changed.{Changed}
-use Rattle.changer.specs.declared.Changed.TheVariants.{Refused}
-use Rattle.changer.specs.Changed.{changed_table, by_written, change_by, ChangedAs, values_of, sent_table}
-use Rattle.changer.specs.Changed.{forced}
+use Rattle.changer.specs.Changed.{Changed, changed_table, by_written, change_by, ChangedAs, values_of}
+use Rattle.changer.specs.Changed.{sent_table, forced}
 use Rattle.changer.proofs.SettledLaws.{flags_levels}
 use Rattle.changer.proofs.Theorems.{sent_by_lem, by_full}
 
 pub never_eighteen : (text old : List ℕ) (at : ℕ) (r : Changed) (new : List ℕ) → ChangedAs text old at r new
-    → {passes : ℕ} → r ≡ Refused (refusal 18 0) passes → ⊥
+    → {passes : ℕ} → r ≡ Err (stop (refusal 18 0) passes) → ⊥
 never_eighteen text old at r new p {passes} q = by_forcing (forced text).answer refl
   where
     by_forcing : (a : Answer) → (forced text).answer ≡ a → ⊥
-    by_forcing (Given v) says =
+    by_forcing (Ok v) says =
         let s = sent_by_lem text says in
-        let answer : Refused (refusal 18 0) passes
+        let answer : Err (stop (refusal 18 0) passes)
         ≡ by_written (written_answer (changed_table (sent_table text)) (length old) at) =
         sym q
         ∙ p.answer
@@ -34,8 +30,8 @@ never_eighteen text old at r new p {passes} q = by_forcing (forced text).answer 
         ((writer.eighteen_exact (changed_table (sent_table text)) (length old) at).0
         (sym (by_full _ answer))).2
         (flags_levels (sent_table text) (ended (sent_table text)) s.read.legal.count s.read.levels)
-    by_forcing (Stopped why k) says =
-        let same : Refused (refusal 18 0) passes ≡ Refused why k =
+    by_forcing (Err s) says =
+        let same : Err (stop (refusal 18 0) passes) ≡ Err s =
         sym q
         ∙ p.answer
         ∙ ap (λ a. change_by a (written_answer (changed_table (sent_table text)) (length old) at)) says

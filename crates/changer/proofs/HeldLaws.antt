@@ -1,33 +1,31 @@
 -- The table of the rows: turn by turn; it is the sent table with other flags, and after forcing the table as
 -- changed. Assumes nothing.
-use Rattle.std.proofs.Common.{ℕ, ◌+◌, ◌≤◌, ◌<◌, arith, ◌≡◌, refl, sym, ap, ap₂, ◌∙◌, List, set, replicate}
+use Rattle.std.proofs.Common.{ℕ, ◌+◌, ◌≤◌, ◌<◌, arith, ◌≡◌, refl, sym, ap, ap₂, ◌∙◌, List, set, replicate, Ok}
+use Rattle.std.proofs.Common.{Err}
 use Rattle.base.specs.Rows.{at, row}
 use Rattle.base.proofs.RowLaws.{row_at, row_same, fill_start, fill_step, fill_end}
 use Rattle.table.specs.declared.Task.{Task}
 use Rattle.table.specs.declared.Table.{Table}
 use Rattle.table.specs.declared.Refusal.{Refusal}
-use Rattle.table.specs.declared.Checked.TheVariants.{Fine, Refused as Faulty}
-use Rattle.table.specs.Table.{no_task, task_at, LegalTable}
+use Rattle.planner.specs.Answers.{stop, no_record, entry, changes}
+use Rattle.table.specs.Table.{no_task, task_at, flags_of, LegalTable}
 use Rattle.flags.specs.declared.Flags.{Flags}
 use Rattle.flags.specs.Flags.{flag_in, held}
 use Rattle.rows.specs.declared.Head.{Head}
+use Rattle.rows.specs.declared.Rows.{Rows}
 use Rattle.rows.specs.Held.{LegalRows, rest_of_task, RowsOf}
 use Rattle.rows.specs.Levels.{level_in}
-use Rattle.rows.proofs.HeldLaws.{rows_time, rows_deadline, rows_level, table_rows}
+use Rattle.rows.proofs.HeldLaws.{rows_time, rows_deadline, rows_level}
 use Rattle.forcing.proofs.TableLaws.{given_held}
 use Rattle.lines.specs.Reads.{read_of}
 use Rattle.lines.proofs.Theorems.{read_legal}
 use Rattle.planner.specs.declared.Record.{Record}
 use Rattle.planner.specs.declared.Said.{Said}
 use Rattle.planner.specs.declared.Job.TheVariants.{Force}
-use Rattle.planner.specs.Answers.{no_record, entry, changes}
 use Rattle.planner.specs.Done.{ended, legal_done}
 use Rattle.planner.specs.Rows.{OfTable, said_done}
-use Rattle.loading.specs.declared.Loaded.{Loaded}
 use Rattle.row_reader.specs.RowsRead.{PlanLoaded}
-use Rattle.changer.specs.declared.Changed.{Changed}
-use Rattle.changer.specs.declared.Changed.TheVariants.{Refused}
-use Rattle.changer.specs.Changed.{with_flag, with_flags, Changes, ForcedAs, ChangedAs}
+use Rattle.changer.specs.Changed.{Changed, with_flag, with_flags, Changes, ForcedAs, ChangedAs}
 use Rattle.changer.specs.Held.{Times, task_in, table_in}
 use Rattle.changer.proofs.ChangeLaws.{Accepts, flags_same, record_flags, forced_table}
 use Rattle.changer.proofs.ChangeLaws.{changes_of, text_forced, text_faulty}
@@ -132,33 +130,29 @@ module _ {t : Table} {inverse rest cost reach : List ℕ} {h : Head} (legal : Le
         ∙ flags_same t (flag_in s.flags) (ended t) legal.count (said_flags a))
         c
 
--- a text in rows: where it is fine, its rows are legal, and what is written of them is promised of the text
-module _ (text : List ℕ) {l : Loaded} {inverse rest cost reach : List ℕ}
-    (loaded : PlanLoaded text l inverse rest cost reach) (fine : l.answer ≡ Fine) where
-  read_fine : (read_of text).answer ≡ Fine
-  read_fine = sym loaded.answer ∙ fine
+-- a text in rows: where it is fine, what is written of its rows is promised of the text
+module _ (text : List ℕ) {given : Flags} {x : Rows} (loaded : PlanLoaded text (Ok given) x) where
+  read_fine : (read_of text).answer ≡ Ok tt
+  read_fine = sym loaded.answer
 
-  pub plan_legal : LegalRows l.head inverse rest cost reach
-      × (l.given ≡ held (flag_in l.given) l.head.n)
-  plan_legal =
-      let legal = read_legal text read_fine in
-      let rows = loaded.rows read_fine in
-      (table_rows legal rows, given_held legal (loaded.given read_fine) rows.n)
+  sent_flags : given ≡ held (at (flags_of (read_of text).table)) (read_of text).table.n
+  sent_flags = let e = loaded.given read_fine in cc
+
+  pub plan_given : given ≡ held (flag_in given) x.head.n
+  plan_given = given_held (read_legal text read_fine) sent_flags (loaded.rows read_fine).n
 
   pub plan_changed : (s : Said) (bounds : List ℕ)
-      → OfTable (λ t. legal_done t Force) l.head inverse rest cost reach l.given
-      (said_done l.given s bounds)
+      → OfTable (λ t. legal_done t Force) x given (said_done given s bounds)
       → {t : Table} {old : List ℕ} {at : ℕ} {r : Changed} {new : List ℕ}
-      → t ≡ table_in l.head rest cost reach (flag_in s.flags) → Changes s.answer t old at r new
-      → ChangedAs text old at r new
+      → t ≡ table_in x.head x.times.rest x.times.cost x.reach (flag_in s.flags)
+      → Changes s.answer t old at r new → ChangedAs text old at r new
   plan_changed s bounds said is c =
       let legal = read_legal text read_fine in
       let rows = loaded.rows read_fine in
       text_forced text refl read_fine
-      (said_forced legal rows l.given s bounds
-      (said (read_of text).table legal rows (loaded.given read_fine)) (changes_of is c))
+      (said_forced legal rows given s bounds
+      (said (read_of text).table legal rows sent_flags) (changes_of is c))
 
-pub plan_refused : (text : List ℕ) {l : Loaded} {inverse rest cost reach : List ℕ} {why : Refusal}
-    {old : List ℕ} {at : ℕ} → PlanLoaded text l inverse rest cost reach → l.answer ≡ Faulty why
-    → ChangedAs text old at (Refused why 0) old
-plan_refused text loaded fault = text_faulty text refl (sym loaded.answer ∙ fault)
+pub plan_refused : (text : List ℕ) {why : Refusal} {x : Rows} {old : List ℕ} {at : ℕ}
+    → PlanLoaded text (Err why) x → ChangedAs text old at (Err (stop why 0)) old
+plan_refused text loaded = text_faulty text refl (sym loaded.answer)

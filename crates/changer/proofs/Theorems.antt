@@ -16,67 +16,60 @@
 --
 -- The last two are of Wish 6. The records are those that forcing the sent text gives. Assumes nothing.
 use Rattle.std.proofs.Common.{ℕ, ◌+◌, ◌≤◌, arith, ◌≡◌, refl, sym, ap, ap₂, subst, ◌∙◌, ◌↔◌, true, List}
-use Rattle.std.proofs.Common.{length}
+use Rattle.std.proofs.Common.{length, Ok, Err}
 use Rattle.base.specs.Rows.{at}
 use Rattle.base.proofs.RowLaws.{row_at, row_same}
 use Rattle.table.specs.declared.Table.{Table}
 use Rattle.table.specs.declared.Refusal.{Refusal}
-use Rattle.table.specs.declared.Checked.{Checked}
-use Rattle.table.specs.declared.Checked.TheVariants.{Fine, Refused as Faulty}
+use Rattle.table.specs.Checks.{Checked, refusal}
+use Rattle.planner.specs.declared.Stop.{Stop}
+use Rattle.planner.specs.Answers.{stop, Answer, given, no_record, entry, record_at, records_of, changes}
 use Rattle.table.specs.Table.{LegalTable}
-use Rattle.table.specs.Checks.{refusal}
 use Rattle.frames.specs.Digits.{raised}
 use Rattle.lines.specs.declared.Reading.{Reading}
 use Rattle.lines.specs.Reads.{accepted, read_of}
 use Rattle.lines.specs.Writes.{plan_text, WrittenAs}
 use Rattle.lines.proofs.Theorems.{reading_exact}
 use Rattle.lines.proofs.Letters.{raised_read}
-use Rattle.planner.specs.declared.Answer.{Answer}
-use Rattle.planner.specs.declared.Answer.TheVariants.{Given, Refused as Stopped}
 use Rattle.planner.specs.declared.Done.{Done}
 use Rattle.planner.specs.declared.Verdict.{Verdict}
 use Rattle.planner.specs.declared.Record.{Record}
 use Rattle.planner.specs.declared.Job.{Job}
 use Rattle.planner.specs.declared.Job.TheVariants.{Test, Force}
-use Rattle.planner.specs.Answers.{given, no_record, entry, record_at, records_of, changes}
 use Rattle.planner.specs.Done.{finish, sent, final, ended, legal_done, room_done, unless_faulty, plan_done}
 use Rattle.planner.proofs.StageLaws.{tests_table, forces_table, room_enough, plan_fine, plan_faulty}
-use Rattle.writer.specs.declared.Written.{Written}
-use Rattle.writer.specs.declared.Written.TheVariants.{End as Ends, Refused as Full}
-use Rattle.writer.specs.Written.{written_answer, buffer_after, WroteAs}
+use Rattle.writer.specs.Written.{Written, written_answer, buffer_after, WroteAs}
 use Rattle.writer.specs.Ways.{TooFull, between}
 use Rattle.writer.proofs.Theorems as writer
-use Rattle.changer.specs.declared.Changed.{Changed}
-use Rattle.changer.specs.declared.Changed.TheVariants.{End, Refused}
-use Rattle.changer.specs.Changed.{with_flags, changed_table, by_written, change_by, after_by, Changes}
-use Rattle.changer.specs.Changed.{ChangedAs, values_of, sent_table, forced, flags_in, bounds_in}
+use Rattle.changer.specs.Changed.{Changed, with_flags, changed_table, by_written, change_by, after_by}
+use Rattle.changer.specs.Changed.{Changes, ChangedAs, values_of, sent_table, forced, flags_in, bounds_in}
 use Rattle.changer.proofs.ChangeLaws.{flags_same, Accepts, accepts, record_flags}
 use Rattle.changer.proofs.SettledLaws.{flags_zeros, changed_legal, changed_test, changed_force}
 use Rattle.changer.proofs.SettledLaws.{changed_again}
 
-not_end : {e : ℕ} {why : Refusal} {passes : ℕ} → Refused why passes ≡ End e → ⊥
+not_end : {e : ℕ} {why : Refusal} {passes : ℕ} → Err (stop why passes) ≡ Ok e → ⊥
 not_end q = let z : ◌≡◌ {A = ℕ} 0 1 = cc in omega arith
 
-by_written_lem : (w : Written) {e : ℕ} → End e ≡ by_written w → Ends e ≡ w
-by_written_lem (Ends x) q = ap Ends (ap (λ w. (values_of w).end) q)
-by_written_lem (Full why) q = absurd (not_end (sym q))
+by_written_lem : (w : Written) {e : ℕ} → Ok e ≡ by_written w → Ok e ≡ w
+by_written_lem (Ok x) q = ap Ok (ap (λ w. (values_of w).end) q)
+by_written_lem (Err why) q = absurd (not_end (sym q))
 
 -- An end place: forcing accepted, and the writer wrote the table as changed.
 record Ended (a : Answer) (t : Table) (old : List ℕ) (at e : ℕ) (new : List ℕ) : Type 0 where
   verdict : Verdict
-  says : a ≡ Given verdict
-  wrote : WroteAs t old at (Ends e) new
+  says : a ≡ Ok verdict
+  wrote : WroteAs t old at (Ok e) new
 
 ended_by : (a : Answer) (t : Table) (old : List ℕ) (at e : ℕ) (new : List ℕ)
-    → End e ≡ change_by a (written_answer t (length old) at) → new ≡ after_by a old (buffer_after t old at)
+    → Ok e ≡ change_by a (written_answer t (length old) at) → new ≡ after_by a old (buffer_after t old at)
     → Ended a t old at e new
-ended_by (Given v) t old at e new q b =
+ended_by (Ok v) t old at e new q b =
     record { verdict = v; says = refl; wrote = record { answer = by_written_lem _ q; bytes = b } }
-ended_by (Stopped why passes) t old at e new q b = absurd (not_end (sym q))
+ended_by (Err s) t old at e new q b = absurd (not_end (sym q))
 
 -- it lies within the buffer
 pub end_within : {a : Answer} {t : Table} {old : List ℕ} {at e : ℕ} {r : Changed} {new : List ℕ}
-    → Changes a t old at r new → r ≡ End e → e ≤ length new
+    → Changes a t old at r new → r ≡ Ok e → e ≤ length new
 end_within {a} {t} {old} {at} {e} {r} {new} p q =
     writer.end_within (ended_by a t old at e new (sym q ∙ p.answer) p.bytes).wrote
 
@@ -101,19 +94,19 @@ pub record Sent (text : List ℕ) : Type 0 where
   pub done : plan_done text Force 32 ≡ legal_done (read_of text).table Force
   pub forces : Accepts (read_of text).table (plan_done text Force 32)
 
-read_fine : (text : List ℕ) {v : Verdict} → (forced text).answer ≡ Given v → (read_of text).answer ≡ Fine
+read_fine : (text : List ℕ) {v : Verdict} → (forced text).answer ≡ Ok v → (read_of text).answer ≡ Ok tt
 read_fine text {v} says = go (read_of text).answer refl
   where
-    go : (c : Checked) → (read_of text).answer ≡ c → (read_of text).answer ≡ Fine
-    go Fine e = e
-    go (Faulty why) e =
+    go : (c : Checked) → (read_of text).answer ≡ c → (read_of text).answer ≡ Ok tt
+    go (Ok _) e = e
+    go (Err why) e =
         absurd
-        (let q : Stopped why 0 ≡ Given v =
+        (let q : Err (stop why 0) ≡ Ok v =
         ap (λ (d : Done). d.answer) (plan_faulty text refl Force 32 e) ∙ says
         in
         let z : ◌≡◌ {A = ℕ} 0 1 = cc in omega arith)
 
-pub sent_by_lem : (text : List ℕ) {v : Verdict} → (plan_done text Force 32).answer ≡ Given v → Sent text
+pub sent_by_lem : (text : List ℕ) {v : Verdict} → (plan_done text Force 32).answer ≡ Ok v → Sent text
 sent_by_lem text says =
     let fine = read_fine text says in
     let t : Table = (read_of text).table in
@@ -142,7 +135,7 @@ accepted_records {text} s mark =
     forced_row t j = entry (ended t j) (changes (sent t) (ended t) j) (at (final t).bounds j)
 
 -- What stands in the buffer from the start place to the end place.
-module _ (text old : List ℕ) (at e : ℕ) (new : List ℕ) (p : ChangedAs text old at (End e) new) where
+module _ (text old : List ℕ) (at e : ℕ) (new : List ℕ) (p : ChangedAs text old at (Ok e) new) where
   there : Ended (forced text).answer (changed_table (sent_table text)) old at e new
   there = ended_by _ _ _ _ _ _ p.answer p.bytes
 
@@ -200,7 +193,7 @@ module _ (text old : List ℕ) (at e : ℕ) (new : List ℕ) (p : ChangedAs text
   -- doing it again, wherever what was written has room
   pub again_same : (old' : List ℕ) (at' : ℕ) (r : Changed) (new' : List ℕ)
       → ChangedAs (between at e new) old' at' r new' → at' + length (between at e new) ≤ length old'
-      → (r ≡ End (at' + length (between at e new)))
+      → (r ≡ Ok (at' + length (between at e new)))
       × (between at' (at' + length (between at e new)) new' ≡ between at e new)
   again_same old' at' r new' q room = (ends, bytes)
     where
@@ -209,7 +202,7 @@ module _ (text old : List ℕ) (at e : ℕ) (new : List ℕ) (p : ChangedAs text
           ap (λ (x : Reading). changed_table x.table) read_changed
           ∙ changed_again (sent_table text) came.read.legal came.read.zeros came.forces.passing
 
-      ends : r ≡ End (at' + length (between at e new))
+      ends : r ≡ Ok (at' + length (between at e new))
       ends =
           q.answer
           ∙ ap₂ (λ a x. change_by a (written_answer x (length old') at'))
@@ -232,22 +225,24 @@ module _ (text old : List ℕ) (at e : ℕ) (new : List ℕ) (p : ChangedAs text
 
 -- Refusals.
 
-pub by_full : (w : Written) {why : Refusal} {passes : ℕ} → Refused why passes ≡ by_written w → Full why ≡ w
-by_full (Ends x) q = absurd (not_end q)
-by_full (Full y) q = cc
+pub by_full : (w : Written) {why : Refusal} {passes : ℕ} → Err (stop why passes) ≡ by_written w → Err why ≡ w
+by_full (Ok x) q = absurd (not_end q)
+by_full (Err y) {why} {passes} q =
+    let same : stop why passes ≡ stop y 0 = cc in ap (λ (s : Stop). Err s.why) same
 
 module _ (text old : List ℕ) (at : ℕ) (r : Changed) (new : List ℕ) (p : ChangedAs text old at r new) where
   -- as forcing does, with its passes, and nothing is written
-  pub refused_forcing : {why : Refusal} {passes : ℕ} → (forced text).answer ≡ Stopped why passes
-      → (r ≡ Refused why passes) × (new ≡ old)
+  pub refused_forcing : {why : Refusal} {passes : ℕ} → (forced text).answer ≡ Err (stop why passes)
+      → (r ≡ Err (stop why passes)) × (new ≡ old)
   refused_forcing says = (
     p.answer ∙ ap (λ a. change_by a (written_answer (changed_table (sent_table text)) (length old) at)) says,
     p.bytes ∙ ap (λ a. after_by a old (buffer_after (changed_table (sent_table text)) old at)) says,
   )
 
   -- then 16, exactly where the text of the table as changed has no room
-  pub refused_full : {v : Verdict} → (forced text).answer ≡ Given v
-      → (r ≡ Refused (refusal 16 0) 0) ↔ TooFull (plan_text (changed_table (sent_table text))) (length old) at
+  pub refused_full : {v : Verdict} → (forced text).answer ≡ Ok v
+      → (r ≡ Err (stop (refusal 16 0) 0))
+      ↔ TooFull (plan_text (changed_table (sent_table text))) (length old) at
   refused_full {v} says = (
     λ q. ((writer.sixteen_exact t (length old) at).0 (sym (by_full _ (sym q ∙ answer)))).1,
     λ f. answer ∙ ap by_written ((writer.sixteen_exact t (length old) at).1 (legal, f)),
@@ -267,13 +262,13 @@ module _ (text old : List ℕ) (at : ℕ) (r : Changed) (new : List ℕ) (p : Ch
           changed_legal (sent_table text) s.read.legal s.read.zeros
 
 stays_by : (a : Answer) (t : Table) (old : List ℕ) (at : ℕ) (new : List ℕ) {why : Refusal} {passes : ℕ}
-    → Refused why passes ≡ change_by a (written_answer t (length old) at)
+    → Err (stop why passes) ≡ change_by a (written_answer t (length old) at)
     → new ≡ after_by a old (buffer_after t old at) → new ≡ old
-stays_by (Given v) t old at new q b =
+stays_by (Ok v) t old at new q b =
     writer.refused_stays {t = t} (record { answer = by_full _ q; bytes = b })
-stays_by (Stopped why passes) t old at new q b = b
+stays_by (Err s) t old at new q b = b
 
 pub refused_stays : (text old : List ℕ) (at : ℕ) (new : List ℕ) {why : Refusal} {passes : ℕ}
-    → ChangedAs text old at (Refused why passes) new → new ≡ old
+    → ChangedAs text old at (Err (stop why passes)) new → new ≡ old
 refused_stays text old at new p =
     stays_by (forced text).answer (changed_table (sent_table text)) old at new p.answer p.bytes

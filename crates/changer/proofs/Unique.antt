@@ -6,9 +6,8 @@ use contract.Lifetimes.{Lfts}
 use denote.Triple.Clauses.{AtExit}
 use Rattle.base.proofs.Unique.{only, OnlyWith}
 use Rattle.table.specs.declared.Table.{Table}
-use Rattle.planner.specs.declared.Answer.{Answer}
-use Rattle.changer.specs.declared.Changed.{Changed}
-use Rattle.changer.specs.Changed.{Changes}
+use Rattle.planner.specs.Answers.{Answer}
+use Rattle.changer.specs.Changed.{Changed, Changes}
 use Rattle.changer.proofs.write_done.Kinds as write_done
 use Rattle.changer.proofs.write_done.Reads as write-done-reads
 use Rattle.changer.proofs.write_changed.Kinds as write-changed

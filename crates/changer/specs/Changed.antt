@@ -11,23 +11,22 @@
 --   what forcing the sent text gives, by place               flags_in (forced text), bounds_in (forced text)
 --
 -- Assumes nothing.
-use Rattle.std.specs.Prelude.{ℕ, ◌≡◌, List, length}
+use Rattle.std.specs.Prelude.{ℕ, ◌≡◌, List, length, Ok, Err, Result}
 use Rattle.base.specs.Rows.{row}
 use Rattle.table.specs.declared.Task.{Task}
 use Rattle.table.specs.declared.Table.{Table}
 use Rattle.table.specs.Table.{no_task, task_at}
 use Rattle.lines.specs.Reads.{read_of}
-use Rattle.planner.specs.declared.Answer.{Answer}
-use Rattle.planner.specs.declared.Answer.TheVariants.{Given, Refused as Stopped}
+use Rattle.planner.specs.declared.Stop.{Stop}
+use Rattle.planner.specs.Answers.{Answer, stop, record_at}
 use Rattle.planner.specs.declared.Done.{Done}
 use Rattle.planner.specs.declared.Job.TheVariants.{Force}
-use Rattle.planner.specs.Answers.{record_at}
 use Rattle.planner.specs.Done.{ended, legal_done, plan_done}
-use Rattle.writer.specs.declared.Written.{Written}
-use Rattle.writer.specs.declared.Written.TheVariants.{End as Ends, Refused as Full}
-use Rattle.writer.specs.Written.{written_answer, buffer_after}
-use Rattle.changer.specs.declared.Changed.{Changed}
-use Rattle.changer.specs.declared.Changed.TheVariants.{End, Refused}
+use Rattle.writer.specs.Written.{Written, written_answer, buffer_after}
+
+-- the place after the text, or where forcing or the writing stopped
+abbrev pub Changed : Type 0
+Changed = Result ℕ Stop
 
 abbrev pub with_flag : Task → ℕ → Task
 with_flag x f = record {
@@ -51,17 +50,17 @@ changed_table t = with_flags t (ended t)
 
 -- what the writer answers; its refusals have no passes
 abbrev pub by_written : Written → Changed
-by_written (Ends e) = End e
-by_written (Full why) = Refused why 0
+by_written (Ok e) = Ok e
+by_written (Err why) = Err (stop why 0)
 
 -- by what forcing answers
 abbrev pub change_by : Answer → Written → Changed
-change_by (Given v) w = by_written w
-change_by (Stopped why passes) w = Refused why passes
+change_by (Ok v) w = by_written w
+change_by (Err s) w = Err s
 
 abbrev pub after_by : Answer → List ℕ → List ℕ → List ℕ
-after_by (Given v) old new = new
-after_by (Stopped why passes) old new = old
+after_by (Ok v) old new = new
+after_by (Err s) old new = old
 
 -- forcing answers a, and t is the table that is written where it accepts
 pub record Changes (a : Answer) (t : Table) (old : List ℕ) (at : ℕ) (r : Changed) (new : List ℕ)
@@ -86,8 +85,8 @@ pub record Values : Type 0 where
   pub end : ℕ
 
 abbrev pub values_of : Changed → Values
-values_of (End e) = record { number = 0; place = 0; passes = 0; end = e }
-values_of (Refused why passes) = record { number = why.number; place = why.place; passes = passes; end = 0 }
+values_of (Ok e) = record { number = 0; place = 0; passes = 0; end = e }
+values_of (Err s) = record { number = s.why.number; place = s.why.place; passes = s.passes; end = 0 }
 
 -- the table that a text sends
 abbrev pub sent_table : List ℕ → Table

@@ -12,34 +12,23 @@ use Rattle.chord.specs.Jump.{grown, GrownBefore, Over, Jumped}
 use Rattle.chord.proofs.ChordLaws.{between}
 
 -- what the loop of `grown_before` knows after i shares
-pub record Run (g : ℕ → ℕ) (n d low count i : ℕ) : Type 0 where
-  pub within : i ≤ n
+pub record Run (g : ℕ → ℕ) (d low count i : ℕ) : Type 0 where
   pub small : low ≤ i * 1000000
   pub few : count ≤ i
   pub line : low + count * (d - 1) ≡ sum_to (λ j. min (d - 1) (g j)) i
   pub above : (e : ℕ) → sum_to (λ j. min e (g j)) i ≤ low + count * e
 
 module _ {g : ℕ → ℕ} {n d : ℕ} (ok : (n ≤ 32) × (1 ≤ d) × (d ≤ 1000001)) where
-  pub run_start : Run g n d 0 0 0
+  pub run_start : Run g d 0 0 0
   unfolding sum_to
-  run_start = record {
-    within = omega arith;
-    small = omega arith;
-    few = omega arith;
-    line = omega arith;
-    above = λ e. omega arith;
-  }
+  run_start = record { small = omega arith; few = omega arith; line = omega arith; above = λ e. omega arith }
 
-  module _ {low count i : ℕ} (a : Run g n d low count i) where
-    pub run_fits : (low ≤ 32000000) × (count ≤ 32)
-    run_fits = (omega (arith, a.small, a.within, ok.0), omega (arith, a.few, a.within, ok.0))
-
-    module _ (lt : i < n) where
+  module _ {low count i : ℕ} (a : Run g d low count i) where
+    module _ {x : ℕ} (read : x ≡ g i) where
       -- a share that stands still before d
-      pub run_still : g i < d → Run g n d (low + g i) count (i + 1)
+      pub run_still : x < d → Run g d (low + x) count (i + 1)
       unfolding sum_to
-      run_still h = rw add-one (record {
-        within = omega arith;
+      run_still h = rw (add-one i) (record {
         small = omega (arith, a.small, ok.2);
         few = omega (arith, a.few);
         line = omega (arith, a.line);
@@ -47,26 +36,23 @@ module _ {g : ℕ → ℕ} {n d : ℕ} (ok : (n ≤ 32) × (1 ≤ d) × (d ≤ 1
       })
 
       -- one that grows on
-      pub run_on : d ≤ g i → Run g n d low (count + 1) (i + 1)
+      pub run_on : d ≤ x → Run g d low (count + 1) (i + 1)
       unfolding sum_to
       run_on h = rw (add-one i) (record {
-        within = omega arith;
         small = omega (arith, a.small);
         few = omega (arith, a.few);
         line = omega (arith, a.line);
         above = λ e. omega (arith, a.above e);
       })
 
-    pub run_end : n ≤ i → GrownBefore g n d (record { low = low; count = count })
+    pub run_end : n ≡ i → GrownBefore g n d (record { low = low; count = count })
     unfolding grown
-    run_end done =
-        let all : n ≡ i = omega (arith, a.within) in
-        record {
-          low = run_fits.0;
-          count = run_fits.1;
-          line = rw all a.line;
-          above = λ e. rw all (a.above e);
-        }
+    run_end all = record {
+      low = omega (arith, a.small, ok.0);
+      count = omega (arith, a.few, ok.0);
+      line = rw all a.line;
+      above = λ e. rw all (a.above e);
+    }
 
 -- what the loop of `advance` knows at d: it is in the range, and the line holds there or nothing is left
 pub record Falling (g : ℕ → ℕ) (n m over left d : ℕ) : Type 0 where

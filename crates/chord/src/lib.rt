@@ -20,20 +20,14 @@ fn grown_before(growth: &[u32; 32], used: usize, d: u32) -> Grown
 {
     let mut low: u32 = 0;
     let mut count: u32 = 0;
-    let mut i: usize = 0;
-    while i < used {
-        let g = growth[i];
+    for &g in &growth[..used] {
         if g < d {
             low += g;
         } else {
             count += 1;
         }
-        i += 1;
     }
-    Grown {
-        low: low,
-        count: count,
-    }
+    Grown { low, count }
 }
 
 // How many lengths on the line can hold; `left` where it cannot before. `over` is how far the sum is above
@@ -43,7 +37,8 @@ pub fn advance(growth: &[u32; 32], used: usize, m: u32, over: u32, all: u32, lef
     requires { Over (at growth.now) used m over all left }
     ensures { Jumped (at growth.now) used m over left result }
 {
-    let mut d = numbers::least_of((over + all) / m + 1, left);
+    let mut d = ((over + all) / m + 1).min(left);
+    // A loop: d jumps down, no range gives its values.
     loop {
         let g = grown_before(growth, used, d);
         let before = d - 1;

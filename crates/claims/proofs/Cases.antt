@@ -2,7 +2,7 @@
 -- antt computes every answer.
 -- Assumes nothing.
 use Rattle.std.proofs.Common.{ℕ, zero, suc, ◌<◌, arith, ◌≡◌, refl, Bool, true, false, not, ◌&&◌, List, []}
-use Rattle.std.proofs.Common.{◌∷◌, T, length}
+use Rattle.std.proofs.Common.{◌∷◌, T, length, Ok}
 use Rattle.base.specs.Sums.{sum_to, top_to}
 use Rattle.base.specs.Least.{least, first_from}
 use Rattle.model.specs.Bound.{work_in, W, E, share, block, from, cap, share_of, block_of}
@@ -10,7 +10,6 @@ use Rattle.model.specs.Bound.{B, satisfies, least_length, bound}
 use Rattle.base.specs.Rows.{list_from, row}
 use Rattle.model.specs.Forcing.{test, lowest, lacks, lacking, made, run, force}
 use Rattle.table.specs.Table.{flags_of}
-use Rattle.table.specs.declared.Checked.TheVariants.{Fine}
 use Rattle.table.specs.Checks.{faulty, head_fault, task_fault, faulty_task, check_of}
 use Rattle.frames.specs.Frames.{frame_fault}
 use Rattle.lines.specs.Fields.{head_line_fault}
@@ -80,6 +79,6 @@ all_values n number place forced passes = (refl, refl, refl)
 
 -- of every case of what reading and the checks answer
 pub all_checked : (number place : ℕ)
-    → (number_of Fine ≡ 0) × (place_of Fine ≡ 0)
+    → (number_of (Ok tt) ≡ 0) × (place_of (Ok tt) ≡ 0)
     × (number_of (faulty number place) ≡ number) × (place_of (faulty number place) ≡ place)
 all_checked number place = (refl, refl, refl, refl)

@@ -13,10 +13,9 @@ use Rattle.frames.specs.Digits.{raised}
 use Rattle.lines.specs.Writes.{ZerosPast, PlaceLevels, plan_text}
 use Rattle.lines.proofs.Theorems.{reading_exact, text_accepted}
 use Rattle.lines.proofs.Letters.{raised_read}
-use Rattle.planner.specs.declared.Answer.{Answer}
+use Rattle.planner.specs.Answers.{Answer, refused, record_at}
 use Rattle.planner.specs.declared.Job.{Job}
 use Rattle.planner.specs.declared.Record.{Record}
-use Rattle.planner.specs.Answers.{refused, record_at}
 use Rattle.planner.specs.Done.{plan_done, table_from, loaded, list_after}
 use Rattle.planner.specs.Calls.{Call, plan, tasks, Allows, Answered, Sends, by_text, by_list, Faulty}
 use Rattle.planner.specs.Calls.{done_of, list_table}

@@ -11,10 +11,9 @@ use Rattle.model.proofs.LengthLaws.{bound_least, bound_none_exactly}
 use Rattle.model.proofs.DemandLaws.{forced_passes}
 use Rattle.table.specs.declared.Table.{Table}
 use Rattle.table.specs.Table.{system_of, flags_of}
-use Rattle.planner.specs.declared.Answer.{Answer}
+use Rattle.planner.specs.Answers.{Answer, given, values_of, record_at, changes}
 use Rattle.planner.specs.declared.Job.TheVariants.{Test, Force}
 use Rattle.planner.specs.declared.Record.{Record}
-use Rattle.planner.specs.Answers.{given, values_of, record_at, changes}
 use Rattle.planner.specs.Done.{sent, final, ended, count_forced}
 use Rattle.planner.specs.Calls.{Call, Answered, Sends}
 use Rattle.planner.specs.Ways.{Verdicts, tested_yes, tested_no, forced_yes, fourteen, test_record}

@@ -13,10 +13,9 @@ use Rattle.model.proofs.StepLaws as order
 use Rattle.table.specs.declared.Table.{Table}
 use Rattle.table.specs.Table.{LegalTable, system_of, flags_of}
 use Rattle.flags.specs.Flags.{changed}
-use Rattle.planner.specs.declared.Answer.{Answer}
+use Rattle.planner.specs.Answers.{Answer, given, refused}
 use Rattle.planner.specs.declared.Job.TheVariants.{Force}
 use Rattle.planner.specs.declared.Record.{Record}
-use Rattle.planner.specs.Answers.{given, refused}
 use Rattle.planner.specs.Done.{sent, ended}
 use Rattle.planner.specs.Ways.{Verdicts, forced_yes, fourteen}
 use Rattle.planner.specs.Calls.{Call, Answered}

@@ -3,7 +3,7 @@
 -- of run_plan and run_tasks allows. Under FP a task counts as higher by its level: `system_of` of the crate
 -- `table`, and the page of `claims_levels`. The words: specs/Words, specs/Results, specs/Algorithm2.
 -- Assumes nothing.
-use Rattle.std.proofs.Common.{ℕ, ◌+◌, ◌≤◌, ◌<◌, ◌≡◌, true, false, ◌⊎◌, ◌↔◌, List, T, length, take}
+use Rattle.std.proofs.Common.{ℕ, ◌+◌, ◌≤◌, ◌<◌, ◌≡◌, true, false, ◌⊎◌, ◌↔◌, List, T, length, take, Ok}
 use Rattle.base.specs.Rows.{at}
 use Rattle.model.specs.Bound.{bound}
 use Rattle.model.specs.Demands.{Passes, Settled, Holds, Step, Steps, step_count}
@@ -12,7 +12,6 @@ use Rattle.schedule.specs.Promise.{Promise, Asked}
 use Rattle.schedule.specs.Example.{case_b}
 use Rattle.table.specs.declared.Table.{Table}
 use Rattle.table.specs.Table.{LegalTable, system_of, flags_of}
-use Rattle.table.specs.declared.Checked.TheVariants.{Fine}
 use Rattle.table.specs.Checks.{faulty}
 use Rattle.table.specs.Faults.{Within}
 use Rattle.table.specs.Load.{Covers}
@@ -27,11 +26,10 @@ use Rattle.lines.specs.Wrong.{RightUpTo, text_count}
 use Rattle.lines.proofs.Theorems as lines
 use Rattle.lines.proofs.Letters as letters
 use Rattle.levels.specs.Levels.{SameSystem}
-use Rattle.planner.specs.declared.Answer.{Answer}
+use Rattle.planner.specs.Answers.{Answer, given, refused, record_at, values_of}
 use Rattle.planner.specs.declared.Job.{Job}
 use Rattle.planner.specs.declared.Job.TheVariants.{Test, Force}
 use Rattle.planner.specs.declared.Record.{Record}
-use Rattle.planner.specs.Answers.{given, refused, record_at, values_of}
 use Rattle.planner.specs.Calls.{Call, plan, tasks, Answered, Sends, Faulty}
 use Rattle.planner.specs.Ways.{Verdicts}
 use Rattle.planner.proofs.CallLaws as calls
@@ -266,7 +264,7 @@ pub all_values : (n number place forced passes : ℕ)
 all_values = sums.all_values
 
 pub all_checked : (number place : ℕ)
-    → (number_of Fine ≡ 0) × (place_of Fine ≡ 0)
+    → (number_of (Ok tt) ≡ 0) × (place_of (Ok tt) ≡ 0)
     × (number_of (faulty number place) ≡ number) × (place_of (faulty number place) ≡ place)
 all_checked = sums.all_checked
 

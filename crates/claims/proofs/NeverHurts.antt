@@ -18,11 +18,10 @@ use Rattle.easier.specs.Eased.{Eased, forced_count}
 use Rattle.easier.specs.TableWords.{Accepted, UnharmedTable}
 use Rattle.easier.proofs.EasedLaws.{eased_bounds}
 use Rattle.easier.proofs.TableLaws.{table_eased, table_shortened, table_edf}
-use Rattle.planner.specs.declared.Answer.{Answer}
+use Rattle.planner.specs.Answers.{Answer, given, values_of, record_at, changes}
 use Rattle.planner.specs.declared.Job.{Job}
 use Rattle.planner.specs.declared.Job.TheVariants.{Test, Force}
 use Rattle.planner.specs.declared.Record.{Record}
-use Rattle.planner.specs.Answers.{given, values_of, record_at, changes}
 use Rattle.planner.specs.Done.{sent, final, ended, count_forced}
 use Rattle.planner.specs.Calls.{Call}
 use Rattle.planner.specs.Ways.{Verdicts, tested_yes, tested_no, forced_yes, fourteen, forced_record}

@@ -1,13 +1,12 @@
 -- None of the six wrong forcers meets the promise: at case b, at b and c, or at b and d it answers otherwise.
 -- Assumes nothing.
-use Rattle.std.proofs.Common.{ℕ, arith, ◌≡◌, refl, sym, ap, ◌∙◌, true, List, [], ◌∷◌}
+use Rattle.std.proofs.Common.{ℕ, arith, ◌≡◌, refl, sym, ap, ◌∙◌, true, List, [], ◌∷◌, Ok}
 use Rattle.base.specs.Sums.{sum_to, top_to}
 use Rattle.base.specs.Least.{least, first_from}
 use Rattle.base.specs.Rows.{list_from, row}
 use Rattle.model.specs.Bound.{work_in, W, E, share, block, from, cap, share_of, block_of}
 use Rattle.model.specs.Bound.{B, satisfies, least_length, bound}
 use Rattle.model.specs.Forcing.{test, lowest, lacks, lacking, made, run, force}
-use Rattle.table.specs.declared.Checked.TheVariants.{Fine}
 use Rattle.table.specs.Table.{system_of, flags_of}
 use Rattle.table.specs.Checks.{head_fault, task_fault, faulty_task, check_of}
 use Rattle.table.proofs.TableLaws.{fine_legal}
@@ -28,19 +27,19 @@ abbrev two : List Record
 two = no_record ∷ no_record ∷ []
 
 -- the tables of the cases b, c and d are legal
-fine_b : check_of (pair_table 12 1) ≡ Fine
+fine_b : check_of (pair_table 12 1) ≡ Ok tt
 unfolding first_from head_fault task_fault faulty_task check_of loaded
 fine_b = refl
 
-fine_c : check_of (pair_table 11 1) ≡ Fine
+fine_c : check_of (pair_table 11 1) ≡ Ok tt
 unfolding first_from head_fault task_fault faulty_task check_of loaded
 fine_c = refl
 
-fine_d : check_of (pair_table 11 0) ≡ Fine
+fine_d : check_of (pair_table 11 0) ≡ Ok tt
 unfolding first_from head_fault task_fault faulty_task check_of loaded
 fine_d = refl
 
-asks : (d f : ℕ) → check_of (pair_table d f) ≡ Fine → Asks (pair 1 d f) (pair_table d f) two
+asks : (d f : ℕ) → check_of (pair_table d f) ≡ Ok tt → Asks (pair 1 d f) (pair_table d f) two
 asks d f fine = record { sends = by_list 1 1 _ (fine_legal {t = pair_table d f} fine); room = omega arith }
 
 -- what is promised of them

@@ -7,12 +7,10 @@
 --   the case at a place of a list                        case_at cs i
 --
 -- Assumes nothing.
-use Rattle.std.specs.Prelude.{ℕ, Bool, true, false, not, ◌&&◌, List, [], ◌∷◌, map, get_or, take, eqb}
+use Rattle.std.specs.Prelude.{ℕ, Bool, true, false, not, ◌&&◌, List, [], ◌∷◌, map, get_or, take, eqb, Ok, Err}
 use Rattle.base.specs.Choice.{pick}
 use Rattle.table.specs.declared.Task.{Task}
-use Rattle.planner.specs.declared.Answer.{Answer}
-use Rattle.planner.specs.declared.Answer.TheVariants.{Given, Refused}
-use Rattle.planner.specs.Answers.{given, refused}
+use Rattle.planner.specs.Answers.{Answer, given, refused}
 use Rattle.planner.specs.declared.Done.{Done}
 use Rattle.planner.specs.declared.Job.{Job}
 use Rattle.planner.specs.declared.Job.TheVariants.{Test, Force}
@@ -97,12 +95,12 @@ wrong_cases =
 
 -- whether two answers, and two lists of numbers, are the same
 unfoldable pub same_answer : Answer → Answer → Bool
-same_answer (Given v) (Given w) =
+same_answer (Ok v) (Ok w) =
     (pick v.yes w.yes (not w.yes)) && (eqb v.forced w.forced && eqb v.passes w.passes)
-same_answer (Given v) (Refused why p) = false
-same_answer (Refused why p) (Given v) = false
-same_answer (Refused a p) (Refused b q) =
-    eqb a.number b.number && (eqb a.place b.place && eqb p q)
+same_answer (Ok v) (Err q) = false
+same_answer (Err p) (Ok v) = false
+same_answer (Err p) (Err q) =
+    eqb p.why.number q.why.number && (eqb p.why.place q.why.place && eqb p.passes q.passes)
 
 unfoldable pub same_numbers : List ℕ → List ℕ → Bool
 same_numbers [] [] = true

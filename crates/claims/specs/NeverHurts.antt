@@ -20,11 +20,10 @@ use Rattle.table.specs.declared.Table.{Table}
 use Rattle.table.specs.Table.{task_at, policy_of}
 use Rattle.easier.specs.TableWords.{EasedTable, Redated}
 use Rattle.may_hurt.specs.MayHurt.{Longer, task}
-use Rattle.planner.specs.declared.Answer.{Answer}
+use Rattle.planner.specs.Answers.{Answer, given, refused, record_at}
 use Rattle.planner.specs.declared.Job.{Job}
 use Rattle.planner.specs.declared.Job.TheVariants.{Test, Force}
 use Rattle.planner.specs.declared.Record.{Record}
-use Rattle.planner.specs.Answers.{given, refused, record_at}
 use Rattle.planner.specs.Calls.{Call, tasks, list_table, Answered, Sends}
 
 -- The call sends the legal table t, the caller's list old has room for its records, and the promise allows

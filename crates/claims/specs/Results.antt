@@ -16,9 +16,8 @@ use Rattle.model.specs.Bound.{bound}
 use Rattle.model.specs.Demands.{Passes, Holds}
 use Rattle.table.specs.declared.Table.{Table}
 use Rattle.table.specs.Table.{system_of, flags_of}
-use Rattle.planner.specs.declared.Answer.{Answer}
+use Rattle.planner.specs.Answers.{Answer, Values, given, refused}
 use Rattle.planner.specs.declared.Record.{Record}
-use Rattle.planner.specs.Answers.{Values, given, refused}
 use Rattle.claims.specs.Words.{flags_in, marks_in, bounds_in, preemptive, BoundSaid, Ends, Agree}
 
 abbrev pub values : ℕ → ℕ → Bool → ℕ → ℕ → ℕ → Values

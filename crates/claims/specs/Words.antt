@@ -20,9 +20,8 @@ use Rattle.model.specs.Lengths.{BoundOf, NoLength}
 use Rattle.model.specs.Demands.{Step, Steps}
 use Rattle.table.specs.declared.Table.{Table}
 use Rattle.table.specs.Table.{system_of, flags_of}
-use Rattle.planner.specs.declared.Answer.{Answer}
+use Rattle.planner.specs.Answers.{Answer, record_at}
 use Rattle.planner.specs.declared.Record.{Record}
-use Rattle.planner.specs.Answers.{record_at}
 use Rattle.planner.specs.Calls.{Call, Sends}
 
 -- some answer and some list are allowed, and no others

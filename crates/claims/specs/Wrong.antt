@@ -18,10 +18,9 @@ use Rattle.std.specs.Prelude.{ℕ, ◌<◌, ◌≡◌, true, List}
 use Rattle.model.specs.Bound.{bound}
 use Rattle.table.specs.declared.Table.{Table}
 use Rattle.table.specs.Table.{system_of}
-use Rattle.planner.specs.declared.Answer.{Answer}
+use Rattle.planner.specs.Answers.{Answer, given, refused, values_of}
 use Rattle.planner.specs.declared.Job.TheVariants.{Force}
 use Rattle.planner.specs.declared.Record.{Record}
-use Rattle.planner.specs.Answers.{given, refused, values_of}
 use Rattle.planner.specs.Done.{sent}
 use Rattle.planner.specs.Calls.{Call, Answered}
 use Rattle.claims.specs.Words.{Asks, flags_in, bounds_in}

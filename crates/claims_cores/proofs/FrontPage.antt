@@ -9,10 +9,9 @@ use Rattle.table.specs.Table.{LegalTable, system_of}
 use Rattle.frames.specs.Digits.{raised}
 use Rattle.lines.specs.Reads.{accepted, read_of}
 use Rattle.lines.specs.Writes.{plan_text}
-use Rattle.planner.specs.declared.Answer.{Answer}
+use Rattle.planner.specs.Answers.{Answer, refused}
 use Rattle.planner.specs.declared.Record.{Record}
 use Rattle.planner.specs.declared.Job.TheVariants.{Force}
-use Rattle.planner.specs.Answers.{refused}
 use Rattle.planner.specs.Done.{ended}
 use Rattle.planner.specs.Calls.{Call, plan, Answered, Sends}
 use Rattle.cores.specs.Cores.{on_cores, accepts_on, fewest_cores}

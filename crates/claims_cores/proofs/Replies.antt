@@ -7,11 +7,10 @@ use Rattle.table.specs.declared.Table.{Table}
 use Rattle.table.specs.Checks.{refusal}
 use Rattle.frames.specs.Digits.{raised}
 use Rattle.lines.proofs.Letters.{raised_read}
-use Rattle.planner.specs.declared.Answer.{Answer}
+use Rattle.planner.specs.Answers.{Answer, given, refused, values_of}
 use Rattle.planner.specs.declared.Done.{Done}
 use Rattle.planner.specs.declared.Record.{Record}
 use Rattle.planner.specs.declared.Job.TheVariants.{Force}
-use Rattle.planner.specs.Answers.{given, refused, values_of}
 use Rattle.planner.specs.Done.{refuse, final, failing, force_done, legal_done, list_after}
 use Rattle.planner.specs.Calls.{Call, plan, done_of, Allows, Answered, Sends}
 use Rattle.planner.proofs.CountLaws.{legal_counted}

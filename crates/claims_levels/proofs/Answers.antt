@@ -16,12 +16,11 @@ use Rattle.flags.specs.Flags.{changed}
 use Rattle.lines.specs.Writes.{PlaceLevels}
 use Rattle.levels.specs.Levels.{ButLevels, SameTests}
 use Rattle.levels.proofs.LevelLaws.{places_as_levels, edf_ignores_levels, but_levels_flags}
-use Rattle.planner.specs.declared.Answer.{Answer}
+use Rattle.planner.specs.Answers.{Answer, given, changes, records_of}
 use Rattle.planner.specs.declared.Done.{Done}
 use Rattle.planner.specs.declared.Job.{Job}
 use Rattle.planner.specs.declared.Job.TheVariants.{Test, Force}
 use Rattle.planner.specs.declared.Record.{Record}
-use Rattle.planner.specs.Answers.{given, changes, records_of}
 use Rattle.planner.specs.Done.{finish, refuse, tested_by, test_done, forced_by, force_done, legal_done}
 use Rattle.planner.specs.Done.{roomed}
 use Rattle.planner.specs.Done.{room_done, list_done, loaded}

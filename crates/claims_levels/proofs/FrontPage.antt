@@ -10,10 +10,9 @@ use Rattle.lines.specs.Reads.{accepted, read_of}
 use Rattle.lines.specs.Writes.{PlaceLevels}
 use Rattle.levels.specs.Levels.{by_places, ButLevels, SameTests}
 use Rattle.levels.proofs.LevelLaws as laws
-use Rattle.planner.specs.declared.Answer.{Answer}
+use Rattle.planner.specs.Answers.{Answer, refused}
 use Rattle.planner.specs.declared.Job.{Job}
 use Rattle.planner.specs.declared.Record.{Record}
-use Rattle.planner.specs.Answers.{refused}
 use Rattle.planner.specs.Done.{roomed}
 use Rattle.planner.specs.Calls.{Call, tasks, list_table, done_of, Answered, Sends, in_list}
 use Rattle.claims.specs.Cases.{every}

@@ -22,11 +22,10 @@ use Rattle.rounds.specs.Refuted.{FifteenFinal, NoMorePasses, LemmaSix2, Independ
 use Rattle.table.specs.declared.Table.{Table}
 use Rattle.table.specs.Table.{system_of}
 use Rattle.frames.specs.Digits.{raised}
-use Rattle.planner.specs.declared.Answer.{Answer}
+use Rattle.planner.specs.Answers.{Answer, given, refused, record_at}
 use Rattle.planner.specs.declared.Job.{Job}
 use Rattle.planner.specs.declared.Job.TheVariants.{Test, Force}
 use Rattle.planner.specs.declared.Record.{Record}
-use Rattle.planner.specs.Answers.{given, refused, record_at}
 use Rattle.planner.specs.Calls.{Call, plan, Answered, Sends}
 use Rattle.editions.specs.declared.Edition.{Edition}
 use Rattle.editions.specs.declared.Edition.TheVariants.{First, Second}

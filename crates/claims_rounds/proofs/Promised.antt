@@ -19,11 +19,10 @@ use Rattle.table.specs.Table.{LegalTable, system_of, flags_of}
 use Rattle.table.proofs.TableLaws.{legal_system}
 use Rattle.frames.specs.Digits.{raised}
 use Rattle.lines.proofs.Letters.{raised_read}
-use Rattle.planner.specs.declared.Answer.{Answer}
+use Rattle.planner.specs.Answers.{Answer, given, refused, record_at, no_record}
 use Rattle.planner.specs.declared.Job.{Job}
 use Rattle.planner.specs.declared.Job.TheVariants.{Test, Force}
 use Rattle.planner.specs.declared.Record.{Record}
-use Rattle.planner.specs.Answers.{given, refused, record_at, no_record}
 use Rattle.planner.specs.Done.{final, failing, plan_done, list_after}
 use Rattle.planner.specs.Calls.{Call, plan, tasks, Answered, Sends}
 use Rattle.planner.specs.Ways.{Verdicts, forced_yes}

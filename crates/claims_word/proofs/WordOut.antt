@@ -18,11 +18,10 @@ use Rattle.rows.specs.Held.{system_in, RowsOf}
 use Rattle.forcing.specs.declared.Forced.{Forced}
 use Rattle.forcing.specs.Forced.{Ended}
 use Rattle.forcing.proofs.TableLaws.{rows_force}
-use Rattle.planner.specs.declared.Answer.{Answer}
+use Rattle.planner.specs.Answers.{Answer, given, refused, no_record, record_at, values_of}
 use Rattle.planner.specs.declared.Done.{Done}
 use Rattle.planner.specs.declared.Job.{Job}
 use Rattle.planner.specs.declared.Record.{Record}
-use Rattle.planner.specs.Answers.{given, refused, no_record, record_at, values_of}
 use Rattle.planner.specs.Done.{sent, ended}
 use Rattle.planner.specs.Calls.{Call, Answered, Sends, done_of}
 use Rattle.planner.proofs.JoinLaws.{join_front}

@@ -1,17 +1,15 @@
 -- The code for C can be read back, for every answer of the planner; the numbers of n tasks are answered as
 -- those tasks are; and a last task that is not whole is refused. Assumes nothing.
 use Rattle.std.proofs.Common.{ℕ, ◌+◌, ◌*◌, ◌/◌, ◌%◌, ◌≤◌, ◌<◌, min, arith, ◌≡◌, refl, sym, ap, ◌∙◌, Bool}
-use Rattle.std.proofs.Common.{true, false, ⊎_elim, List, length, replicate, eq-eqb, ne_eqb}
+use Rattle.std.proofs.Common.{true, false, ⊎_elim, List, length, replicate, eq-eqb, ne_eqb, Ok, Err}
 use Rattle.base.proofs.RowLaws.{row_is}
 use Rattle.table.specs.declared.Task.{Task}
 use Rattle.table.specs.Table.{no_task, task_at}
 use Rattle.table.specs.Faults.{Within, TableWrong}
 use Rattle.table.specs.Checks.{refusal}
 use Rattle.table.proofs.TableLaws.{fault_checked}
-use Rattle.planner.specs.declared.Answer.{Answer}
-use Rattle.planner.specs.declared.Answer.TheVariants.{Given, Refused}
+use Rattle.planner.specs.Answers.{Answer, Values, values_of}
 use Rattle.planner.specs.declared.Job.{Job}
-use Rattle.planner.specs.Answers.{Values, values_of}
 use Rattle.planner.specs.Done.{refuse, table_from, list_done, loaded}
 use Rattle.planner.specs.Calls.{plan, tasks, done_of}
 use Rattle.planner.proofs.JoinLaws.{join_front, loaded_length, loaded_past}
@@ -73,11 +71,11 @@ parts_back false n l f p sn sl sf sp = go (0 + 16777216 * p + 65536 * f + 256 * 
         )
 
 code_back : (a : Answer) → SmallValues (values_of 0 a) → read_back (code_of a) ≡ values_of 0 a
-code_back (Given v) s =
+code_back (Ok v) s =
     parts_back v.yes 0 0 v.forced v.passes (omega arith) (omega arith) (omega (arith, s.forced))
     (omega (arith, s.passes))
-code_back (Refused why p) s =
-    parts_back false why.number why.place 0 p (omega (arith, s.number)) (omega (arith, s.place))
+code_back (Err e) s =
+    parts_back false e.why.number e.why.place 0 e.passes (omega (arith, s.number)) (omega (arith, s.place))
     (omega arith) (omega (arith, s.passes))
 
 -- the code of the answer to a plan reads back as that answer's values

@@ -9,8 +9,7 @@ use Rattle.base.specs.Choice.{pick}
 use Rattle.planner.specs.declared.Done.{Done}
 use Rattle.planner.specs.declared.Job.{Job}
 use Rattle.planner.specs.declared.Job.TheVariants.{Test, Force}
-use Rattle.planner.specs.declared.Answer.{Answer}
-use Rattle.planner.specs.Answers.{values_of}
+use Rattle.planner.specs.Answers.{Answer, values_of}
 use Rattle.planner.specs.Done.{plan_done, list_done}
 use Rattle.flat_tasks.specs.FlatTasks.{count_in, tasks_in}
 use Rattle.flat.specs.Flat.{flat_after}

@@ -1,7 +1,7 @@
 -- More cores, and the fewest, of document 01's tables: what forcing says of a table is the model's, and the
 -- number that is the fewest is so in words: forcing accepts with it, with every larger number, and with none
 -- that is smaller. Assumes nothing.
-use Rattle.std.proofs.Common.{ℕ, zero, suc, ◌≤◌, ◌<◌, arith, ◌≡◌, refl, ◌∙◌, sym, Bool, true, false}
+use Rattle.std.proofs.Common.{ℕ, zero, suc, ◌≤◌, ◌<◌, arith, ◌≡◌, refl, ◌∙◌, sym, Bool, true, false, Ok}
 use Rattle.base.specs.Choice.{or_else}
 use Rattle.base.specs.Least.{NoWorse}
 use Rattle.base.proofs.FirstLaws.{first_is, first_none}
@@ -12,7 +12,6 @@ use Rattle.table.specs.Table.{system_of, flags_of, LegalTable}
 use Rattle.table.specs.Checks.{refusal}
 use Rattle.planner.specs.declared.Done.{Done}
 use Rattle.planner.specs.declared.Verdict.{Verdict}
-use Rattle.planner.specs.declared.Answer.TheVariants.{Given}
 use Rattle.planner.specs.Done.{refuse, final, ended, failing, force_done}
 use Rattle.planner.proofs.StageLaws.{timed, flagged}
 use Rattle.cores.specs.Cores.{on_cores, says_yes, accepts_on, fewest_cores}
@@ -34,12 +33,12 @@ yes_force t = go (failing t (final t).bounds) _
     go (suc k) d h = cc
 
 -- forcing's answer is a yes, or a refusal
-pub given_yes : (t : Table) {v : Verdict} → (force_done t).answer ≡ Given v → says_yes (force_done t) ≡ true
+pub given_yes : (t : Table) {v : Verdict} → (force_done t).answer ≡ Ok v → says_yes (force_done t) ≡ true
 unfolding force_done
 given_yes t = go (failing t (final t).bounds) _ refl
   where
     go : (x : ℕ) (d : Done) → says_yes d ≡ true → {v : Verdict}
-        → (or_else x d (λ k. refuse (refusal 14 (suc k)) (final t).passes)).answer ≡ Given v
+        → (or_else x d (λ k. refuse (refusal 14 (suc k)) (final t).passes)).answer ≡ Ok v
         → says_yes (or_else x d (λ k. refuse (refusal 14 (suc k)) (final t).passes)) ≡ true
     go zero d y h = y
     go (suc k) d y h = absurd (let z : ◌≡◌ {A = ℕ} 0 1 = cc in omega arith)

@@ -37,47 +37,24 @@ mod second;
 mod show;
 mod typed;
 
-ghost use Rattle.std.specs.Prelude.{◌≤◌, length};
+ghost use Rattle.std.specs.Prelude.{◌<◌, ◌≤◌, IfOk, IfSome, length};
 
-use changer::Changed;
-use std::io::Read;
-use writer::Written;
+use std::io::{Error, Read};
 
-// How many bytes were read, and whether a read failed.
-#[derive(Clone, Copy)]
-struct Input {
-    count: usize,
-    failed: bool,
-}
-
-// Reads until the buffer is full, the input ends or a read fails.
-fn read_input<R: Read>(from: &mut R, text: &mut [u8]) -> Input
-    ensures { result.count ≤ length text.new }
+// Reads until the buffer is full, the input ends or a read fails, and says how many bytes were read.
+fn read_input<R: Read>(from: &mut R, text: &mut [u8]) -> Result<usize, Error>
+    ensures { IfOk result (λ n. n ≤ length text.new) }
 {
-    let mut count: usize = 0;
+    let mut count = 0;
+    // A while: count goes up by what each read gives.
     while count < text.len() {
-        match from.read(&mut text[count..]) {
-            Ok(more) => {
-                if more == 0 {
-                    return Input {
-                        count: count,
-                        failed: false,
-                    };
-                }
-                count += more;
-            }
-            Err(_) => {
-                return Input {
-                    count: count,
-                    failed: true,
-                };
-            }
+        let more = from.read(&mut text[count..])?;
+        if more == 0 {
+            break;
         }
+        count += more;
     }
-    Input {
-        count: count,
-        failed: false,
-    }
+    Ok(count)
 }
 
 // A refusal's line.
@@ -111,118 +88,71 @@ fn word(text: &[u8]) {
 // The plan as changed.
 fn apply(text: &[u8]) {
     let mut out = io::buffer();
-    let said = changer::write_changed(text, &mut out, 0);
-    match said {
-        Changed::End(end) => {
+    match changer::write_changed(text, &mut out, 0) {
+        Ok(end) => {
             io::write_all(1, &out[..end]);
         }
-        Changed::Refused { why, passes } => refuse(why.number, why.place, passes),
+        Err(stop) => refuse(stop.why.number, stop.why.place, stop.passes),
     }
 }
 
 // The numbers of a table as plan lines.
 fn make(text: &[u8]) {
-    let typed = typed::table_in(text);
-    if !typed.right {
+    let Some(t) = typed::table_in(text) else {
         io::write_all(2, b"desk: these are not the numbers of a table\n");
         return;
-    }
-    let t = typed.table;
+    };
     let mut out = io::buffer();
-    let said = writer::write_plan(t, &mut out, 0);
-    match said {
-        Written::End(end) => {
+    match writer::write_plan(t, &mut out, 0) {
+        Ok(end) => {
             io::write_all(1, &out[..end]);
         }
-        Written::Refused(why) => refuse(why.number, why.place, 0),
+        Err(why) => refuse(why.number, why.place, 0),
     }
 }
 
-// Where the first line ends: the place of its 0A, or the end of the input.
-fn line_end(s: &[u8]) -> usize
-    ensures { result ≤ length s.now }
+// Where the first line ends: the place of its 0A.
+fn line_end(s: &[u8]) -> Option<usize>
+    ensures { IfSome result (λ n. n < length s.now) }
 {
-    let mut i: usize = 0;
-    while i < s.len() {
-        if s[i] == 10 {
-            return i;
-        }
-        i += 1;
-    }
-    i
+    s.iter().position(|b| *b == b'\n')
 }
 
-// Whether the first n bytes are the word.
-fn is_word(s: &[u8], n: usize, word: &[u8]) -> bool
-    requires { n ≤ length s.now }
-{
-    if n != word.len() {
-        return false;
-    }
-    let mut i: usize = 0;
-    while i < n {
-        if s[i] != word[i] {
-            return false;
-        }
-        i += 1;
-    }
-    true
-}
-
-// What is asked of the bytes after the first line, which ends at the place n.
-fn answer(s: &[u8], n: usize)
-    requires { n ≤ length s.now }
-{
-    if n == s.len() {
-        io::write_all(
-            2,
-            b"desk: the first line is none of test, cores, word, apply, show, make, list2, test2, apply2\n",
-        );
-        return;
-    }
-    let rest = n + 1;
-    if is_word(s, n, b"test") {
-        test(&s[rest..]);
-        return;
-    }
-    if is_word(s, n, b"cores") {
-        cores(&s[rest..]);
-        return;
-    }
-    if is_word(s, n, b"word") {
-        word(&s[rest..]);
-        return;
-    }
-    if is_word(s, n, b"apply") {
-        apply(&s[rest..]);
-        return;
-    }
-    if second::asked(s, n) {
-        return;
-    }
-    if is_word(s, n, b"show") {
-        show::show(&s[rest..]);
-        return;
-    }
-    if is_word(s, n, b"make") {
-        make(&s[rest..]);
-        return;
-    }
+fn usage() {
     io::write_all(
         2,
         b"desk: the first line is none of test, cores, word, apply, show, make, list2, test2, apply2\n",
     );
 }
 
+// What is asked of the bytes after the first line.
+fn answer(s: &[u8]) {
+    let Some(n) = line_end(s) else {
+        usage();
+        return;
+    };
+    let text = &s[n + 1..];
+    match &s[..n] {
+        b"test" => test(text),
+        b"cores" => cores(text),
+        b"word" => word(text),
+        b"apply" => apply(text),
+        b"list2" => second::list(text),
+        b"test2" => second::test(text),
+        b"apply2" => second::apply(text),
+        b"show" => show::show(text),
+        b"make" => make(text),
+        _ => usage(),
+    }
+}
+
 fn main(rt: HostRuntime) {
     let mut text = io::buffer();
     let mut from = rt.stdin();
-    let input = read_input(&mut from, &mut text);
-    let n = input.count;
-    if input.failed {
-        io::write_all(2, b"desk: standard input could not be read\n");
-        return;
+    match read_input(&mut from, &mut text) {
+        Ok(n) => answer(&text[..n]),
+        Err(_) => {
+            io::write_all(2, b"desk: standard input could not be read\n");
+        }
     }
-    let line = line_end(&text[..n]);
-    answer(&text[..n], line);
 }

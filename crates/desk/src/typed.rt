@@ -4,174 +4,101 @@ ghost use Rattle.std.specs.Prelude.{◌≤◌, length};
 
 use table::{NO_TASK, Table, Task};
 
-// A number that was read, the place after it, and whether there was one.
-#[derive(Clone, Copy)]
-struct Found {
-    value: u32,
-    next: usize,
-    right: bool,
-}
-
-// A task that was read, the place after it, and whether there was one.
-#[derive(Clone, Copy)]
-struct Typed {
-    task: Task,
-    next: usize,
-    right: bool,
-}
-
-// A table that was read, and whether the text is one.
-#[derive(Clone, Copy)]
-pub struct Made {
-    pub table: Table,
-    pub right: bool,
-}
-
 // The place of the first byte from here on that parts no words.
 fn skip(s: &[u8], from: usize) -> usize
     requires { from ≤ length s.now }
     ensures { result ≤ length s.now }
 {
-    let mut i = from;
-    while i < s.len() {
-        let b = s[i];
-        if b != 32 {
-            if b != 10 {
-                return i;
-            }
+    for i in from..s.len() {
+        if !matches!(s[i], b' ' | b'\n') {
+            return i;
         }
-        i += 1;
     }
-    i
+    s.len()
 }
 
 // One digit more. From 4,294,967,290 on every number is the largest.
 fn more(value: u32, digit: u8) -> u32 {
-    if 9 < digit {
-        return 4294967295;
+    if 9 < digit || 429496728 < value {
+        return u32::MAX;
     }
-    if 429496728 < value {
-        return 4294967295;
-    }
-    10 * value + (digit as u32)
+    10 * value + u32::from(digit)
 }
 
-// The decimal number that stands next.
-fn number(s: &[u8], from: usize) -> Found
-    requires { from ≤ length s.now }
-    ensures { result.next ≤ length s.now }
+// The decimal number that stands next; the place goes behind it.
+fn number(s: &[u8], at: &mut usize) -> Option<u32>
+    requires { at.old ≤ length s.now }
+    ensures { at.new ≤ length s.now }
 {
-    let first = skip(s, from);
-    let mut i = first;
-    let mut value: u32 = 0;
-    while i < s.len() {
+    let first = skip(s, *at);
+    let mut value = 0;
+    *at = s.len();
+    for i in first..s.len() {
         let b = s[i];
-        if b < 48 {
-            return Found {
-                value: value,
-                next: i,
-                right: first < i,
-            };
+        if !(b'0'..=b'9').contains(&b) {
+            *at = i;
+            break;
         }
-        if 57 < b {
-            return Found {
-                value: value,
-                next: i,
-                right: first < i,
-            };
-        }
-        value = more(value, b - 48);
-        i += 1;
+        value = more(value, b - b'0');
     }
-    Found {
-        value: value,
-        next: i,
-        right: first < i,
-    }
+    (first < *at).then_some(value)
 }
 
 // Whether a word more stands in the line.
 fn goes_on(s: &[u8], from: usize) -> bool
     requires { from ≤ length s.now }
 {
-    let mut i = from;
-    while i < s.len() {
-        let b = s[i];
-        if b != 32 {
-            return b != 10;
+    for i in from..s.len() {
+        if s[i] != b' ' {
+            return s[i] != b'\n';
         }
-        i += 1;
     }
     false
 }
 
-// The level in the rest of the line, or else the place.
-fn level_in(s: &[u8], from: usize, place: u32) -> Found
-    requires { from ≤ length s.now }
-    ensures { result.next ≤ length s.now }
+// The numbers of the task that stand next; its level is the rest of the line, or else the place.
+fn task_in(s: &[u8], at: &mut usize, place: u32) -> Option<Task>
+    requires { at.old ≤ length s.now }
+    ensures { at.new ≤ length s.now }
 {
-    if goes_on(s, from) {
-        return number(s, from);
-    }
-    Found {
-        value: place,
-        next: from,
-        right: true,
-    }
-}
-
-// The numbers of the task that stand next.
-fn task_in(s: &[u8], from: usize, place: u32) -> Typed
-    requires { from ≤ length s.now }
-    ensures { result.next ≤ length s.now }
-{
-    let flag = number(s, from);
-    let period = number(s, flag.next);
-    let cost = number(s, period.next);
-    let deadline = number(s, cost.next);
-    let level = level_in(s, deadline.next, place);
-    let task = Task {
-        flag: flag.value,
-        period: period.value,
-        cost: cost.value,
-        deadline: deadline.value,
-        level: level.value,
+    let flag = number(s, at)?;
+    let period = number(s, at)?;
+    let cost = number(s, at)?;
+    let deadline = number(s, at)?;
+    let level = if goes_on(s, *at) {
+        number(s, at)?
+    } else {
+        place
     };
-    Typed {
-        task: task,
-        next: level.next,
-        right: flag.right & period.right & cost.right & deadline.right & level.right,
-    }
+    Some(Task {
+        flag,
+        period,
+        cost,
+        deadline,
+        level,
+    })
 }
 
 // The table that the numbers are of. Of more than 32 tasks none is looked at.
-pub fn table_in(s: &[u8]) -> Made {
-    let cores = number(s, 0);
-    let policy = number(s, cores.next);
-    let count = number(s, policy.next);
-    let n = count.value as usize;
-    let mut right = cores.right & policy.right & count.right;
+pub fn table_in(s: &[u8]) -> Option<Table> {
+    let mut at = 0;
+    let cores = number(s, &mut at)?;
+    let policy = number(s, &mut at)?;
+    let n = number(s, &mut at)? as usize;
     let mut tasks = [NO_TASK; 32];
-    let mut at = count.next;
-    let mut i: usize = 0;
     if n <= 32 {
-        while i < n {
-            let typed = task_in(s, at, i as u32 + 1);
-            let task = typed.task;
+        for i in 0..n {
+            let task = task_in(s, &mut at, i as u32 + 1)?;
             tasks[i] = task;
-            at = typed.next;
-            right = right & typed.right;
-            i += 1;
         }
-        right = right & (skip(s, at) == s.len());
+        if skip(s, at) < s.len() {
+            return None;
+        }
     }
-    Made {
-        table: Table {
-            cores: cores.value,
-            policy: policy.value,
-            n: n,
-            tasks: tasks,
-        },
-        right: right,
-    }
+    Some(Table {
+        cores,
+        policy,
+        n,
+        tasks,
+    })
 }

@@ -7,21 +7,13 @@ use Rattle.base.proofs.SumLaws.{sum_start, sum_step, sum_cap, sum_end}
 use Rattle.rows.proofs.FillLaws.{Filled, filled_start, filled_step}
 use Rattle.differences.specs.Differences.{most_for, Lists, Listed}
 
--- by the tests that lead to it
-module _ (fi c b r : ℕ) where
-  pub most_pre : (fi ≡ 0 → ⊥) → r ≡ 0 → r ≡ most_for fi c b
-  unfolding most_for
-  most_pre some x = go fi some
-    where
-      go : (f : ℕ) → (f ≡ 0 → ⊥) → r ≡ most_for f c b
-      go zero some = absurd (some refl)
-      go (suc f) some = x
+-- nothing beside a preemptive task
+pub most_pre : (fi c b : ℕ) → (fi ≡ 0 → ⊥) → most_for fi c b ≡ 0
+unfolding most_for
+most_pre zero c b some = absurd (some refl)
+most_pre (suc fi) c b some = refl
 
-  pub most_non : fi ≡ 0 → r ≡ c - 1 - b → r ≡ most_for fi c b
-  unfolding most_for
-  most_non e x = rw e x
-
--- and never above C
+-- never above C
 pub most_small : (fi c b : ℕ) → most_for fi c b ≤ c
 unfolding most_for
 most_small zero c b = omega arith
@@ -32,7 +24,6 @@ most_at fl C S due i = most_for (fl i) (C i) (due - S i)
 
 -- what the loop knows after i places
 pub record Listing (fl C S : ℕ → ℕ) (due n : ℕ) (most₀ wait₀ most wait : List ℕ) (all i : ℕ) : Type 0 where
-  pub within : i ≤ n
   pub waits : Filled (λ j. due - S j) wait₀ wait i
   pub mosts : Filled (most_at fl C S due) most₀ most i
   pub whole : all ≡ sum_to (most_at fl C S due) i
@@ -40,7 +31,6 @@ pub record Listing (fl C S : ℕ → ℕ) (due n : ℕ) (most₀ wait₀ most wa
 module _ (fl S : ℕ → ℕ) (due : ℕ) {n : ℕ} {cost most₀ wait₀ : List ℕ} (ok : Lists n cost most₀ wait₀) where
   pub listing_start : Listing fl (at cost) S due n most₀ wait₀ most₀ wait₀ 0 0
   listing_start = record {
-    within = omega arith;
     waits = filled_start _ wait₀ ok.wait_size;
     mosts = filled_start _ most₀ ok.most_size;
     whole = sum_start (most_at fl (at cost) S due);
@@ -71,17 +61,14 @@ module _ (fl S : ℕ → ℕ) (due : ℕ) {n : ℕ} {cost most₀ wait₀ : List
           pub listing_step : Listing fl (at cost) S due n most₀ wait₀ (set most i top) (set wait i left)
               (all + top) (i + 1)
           listing_step = record {
-            within = omega arith;
             waits = filled_step a.waits (omega (arith, ok.few)) is;
             mosts = filled_step a.mosts (omega (arith, ok.few)) here;
             whole = sum_step (most_at fl (at cost) S due) a.whole here;
           }
 
-      pub listing_end : n ≤ i → Listed fl (at cost) S due n most wait all
-      listing_end out =
-          let e : i ≡ n = omega (arith, a.within) in
-          record {
-            waits = λ j lt. a.waits.done j (omega arith);
-            mosts = λ j lt. a.mosts.done j (omega arith);
-            whole = sum_end (most_at fl (at cost) S due) a.whole e;
-          }
+      pub listing_end : i ≡ n → Listed fl (at cost) S due n most wait all
+      listing_end e = record {
+        waits = λ j lt. a.waits.done j (omega arith);
+        mosts = λ j lt. a.mosts.done j (omega arith);
+        whole = sum_end (most_at fl (at cost) S due) a.whole e;
+      }

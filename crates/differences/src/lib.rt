@@ -20,46 +20,44 @@ fn most_for(fi: u32, cost: u32, wait: u32) -> u32
     if fi != 0 {
         return 0;
     }
-    numbers::past(cost - 1, wait)
+    (cost - 1).saturating_sub(wait)
 }
 
 // Fills the rows beside a non-preemptive k whose deadline is `due`, and says what they come to in all.
-fn list_all<'a>(
+fn list_all(
     n: usize,
-    cost: &'a [u32; 32],
-    slacks: &'a [u32; 32],
+    cost: &[u32; 32],
+    slacks: &[u32; 32],
     flags: Flags,
     due: u32,
-    most: &'a mut [u32; 32],
-    wait: &'a mut [u32; 32],
+    most: &mut [u32; 32],
+    wait: &mut [u32; 32],
 ) -> u32
     requires { Lists n cost.now most.old wait.old }
     ensures { Listed (flag_in flags) (at cost.now) (at slacks.now) due n
         most.new wait.new result }
 {
     let mut all: u32 = 0;
-    let mut i: usize = 0;
-    while i < n {
-        let left = numbers::past(due, slacks[i]);
+    for i in 0..n {
+        let left = due.saturating_sub(slacks[i]);
         let top = most_for(flags::flag_at(flags, i), cost[i], left);
         wait[i] = left;
         most[i] = top;
         all += top;
-        i += 1;
     }
     all
 }
 
 // Fills the rows of task k's differences, and says what they come to at most: 0 where there are none.
-pub fn differences_of<'a>(
+pub fn differences_of(
     head: Head,
-    cost: &'a [u32; 32],
-    reach: &'a [u32; 32],
-    slacks: &'a [u32; 32],
+    cost: &[u32; 32],
+    reach: &[u32; 32],
+    slacks: &[u32; 32],
     flags: Flags,
     k: usize,
-    most: &'a mut [u32; 32],
-    wait: &'a mut [u32; 32],
+    most: &mut [u32; 32],
+    wait: &mut [u32; 32],
 ) -> u32
     requires { (Differable head.n cost.now reach.now slacks.now) × (k < head.n)
         × (most.old ≡ replicate 32 0) × (length wait.old ≡ 32) }

@@ -11,8 +11,8 @@ use Rattle.digits.proofs.word.Reads as word-reads
 pub digit_table_only : Only 0 digit-table.ps digit-table.r digit-table-reads.Post
 digit_table_only κs a x y s s' p q = only p q
 
-pub byte_only : Only 1 byte.ps byte.r byte-Reads.Post
+pub byte_only : Only 2 byte.ps byte.r byte-Reads.Post
 byte_only κs a x y s s' p q = only p q
 
-pub word_only : Only 1 word.ps word.r word-reads.Post
+pub word_only : Only 2 word.ps word.r word-reads.Post
 word_only κs a x y s s' p q = only p q

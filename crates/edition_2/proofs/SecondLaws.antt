@@ -115,14 +115,6 @@ module _ {t : Table} (legal : LegalTable t) {sent_flags : Flags}
           ∙ ap (λ (f : Final2). at f.last.bounds j) is_final)
           counted listed 15)
 
--- by the job
-module _ (t : Table) (job : Job) where
-  pub tests_second : job ≡ Test → test_second t ≡ legal_second t job
-  tests_second e = rw e
-
-  pub forces_second : job ≡ Force → force_second t ≡ legal_second t job
-  forces_second e = rw e
-
 -- how many records there are, and an answer whose records are listed
 pub second_counted : (t : Table) (job : Job) → Counted t.n (done_second t job)
 second_counted t Test = tested_counted t (tested2 t).bounds

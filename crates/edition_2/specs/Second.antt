@@ -9,14 +9,13 @@
 --   15 in place of 14, place and passes as for 14     done_second t Force, by the planner's forced_by
 --
 -- Assumes nothing.
-use Rattle.std.specs.Prelude.{ℕ}
+use Rattle.std.specs.Prelude.{ℕ, Ok, Err}
 use Rattle.model.specs.Forcing.{Final}
 use Rattle.rounds.specs.Rounds.{Tested, test2}
 use Rattle.rounds.specs.Forcing.{Final2, force2}
 use Rattle.table.specs.Table.{system_of, flags_of}
 use Rattle.table.specs.declared.Table.{Table}
-use Rattle.planner.specs.declared.Answer.{Answer}
-use Rattle.planner.specs.declared.Answer.TheVariants.{Given, Refused}
+use Rattle.planner.specs.Answers.{Answer}
 use Rattle.planner.specs.declared.Done.{Done}
 use Rattle.planner.specs.declared.Job.{Job}
 use Rattle.planner.specs.declared.Job.TheVariants.{Test, Force}
@@ -46,8 +45,8 @@ unrounded d = record { done = d; rounds = 0 }
 
 -- a test's no has its count, and a refusal none
 abbrev pub rounds_in : Answer → ℕ → ℕ
-rounds_in (Given v) r = r
-rounds_in (Refused why passes) r = 0
+rounds_in (Ok v) r = r
+rounds_in (Err s) r = 0
 
 abbrev pub rounded : Done → ℕ → Rounded
 rounded d r = record { done = d; rounds = rounds_in d.answer r }

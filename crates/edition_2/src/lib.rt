@@ -5,14 +5,13 @@
 ghost use Rattle.std.specs.Prelude.{◌≡◌, replicate};
 ghost use Rattle.table.specs.Table.{LegalTable};
 ghost use Rattle.flags.specs.Flags.{flag_in, held};
-ghost use Rattle.rows.specs.Held.{LegalRows};
 ghost use Rattle.planner.specs.Rows.{OfTable};
 ghost use Rattle.edition_2.specs.Second.{unrounded, test_second, force_second, legal_second};
 ghost use Rattle.edition_2.specs.Rows.{said_rounded};
 
 use flags::Flags;
-use planner::{Answer, Done, Job, Said, Verdict};
-use rows::Head;
+use planner::{Done, Job, Said, Verdict};
+use rows::Rows;
 use table::{Refusal, Table};
 
 // An answer with the round count of the last test; 0 where there was none, and in every refusal.
@@ -38,104 +37,64 @@ pub fn without_rounds(d: Done) -> Rounded
 }
 
 // The test of the rows of a legal table, and its flags.
-fn tested<'a>(
-    head: Head,
-    inverse: &'a [u64; 32],
-    rest: &'a [u32; 32],
-    cost: &'a [u32; 32],
-    reach: &'a [u32; 32],
-    given: Flags,
-    bounds: &'a mut [u32; 32],
-) -> RoundsSaid
-    requires { (LegalRows head inverse.now rest.now cost.now reach.now)
-        × (bounds.old ≡ replicate 32 0) }
-    ensures { OfTable test_second head inverse.now rest.now cost.now
-        reach.now given (said_rounded given result bounds.new) }
+fn tested(rows: &Rows, given: Flags, bounds: &mut [u32; 32]) -> RoundsSaid
+    requires { (bounds.old ≡ replicate 32 0) }
+    ensures { OfTable test_second rows.now given (said_rounded given result bounds.new) }
 {
-    let n = head.n;
-    let rounds = round_test::test_rounds(head, inverse, rest, cost, reach, given, bounds);
-    let failing = flags::lowest_failing(flags::failing_of(n, bounds));
-    let verdict = Verdict {
-        yes: failing == 0,
-        forced: 0,
-        passes: 0,
-    };
+    let rounds = round_test::test_rounds(rows, given, bounds);
+    let failing = flags::lowest_failing(flags::failing_of(rows.head.n, bounds));
     let said = Said {
-        answer: Answer::Given(verdict),
-        count: n,
+        answer: Ok(Verdict {
+            yes: failing == 0,
+            forced: 0,
+            passes: 0,
+        }),
+        count: rows.head.n,
         flags: given,
     };
-    RoundsSaid {
-        said: said,
-        rounds: rounds,
-    }
+    RoundsSaid { said, rounds }
 }
 
 // Forcing of them: refused with 15, the lowest failing task and the passes, or accepted.
-fn forced<'a>(
-    head: Head,
-    inverse: &'a [u64; 32],
-    rest: &'a [u32; 32],
-    cost: &'a [u32; 32],
-    reach: &'a [u32; 32],
-    given: Flags,
-    bounds: &'a mut [u32; 32],
-) -> RoundsSaid
-    requires { (LegalRows head inverse.now rest.now cost.now reach.now)
-        × (given ≡ held (flag_in given) head.n) × (bounds.old ≡ replicate 32 0) }
-    ensures { OfTable force_second head inverse.now rest.now cost.now
-        reach.now given (said_rounded given result bounds.new) }
+fn forced(rows: &Rows, given: Flags, bounds: &mut [u32; 32]) -> RoundsSaid
+    requires { (given ≡ held (flag_in given) rows.now.head.n) × (bounds.old ≡ replicate 32 0) }
+    ensures { OfTable force_second rows.now given (said_rounded given result bounds.new) }
 {
-    let n = head.n;
-    let end = round_force::force_rounds(head, inverse, rest, cost, reach, given, bounds);
-    let failing = end.failing;
-    if failing != 0 {
+    let end = round_force::force_rounds(rows, given, bounds);
+    if end.failing != 0 {
         let why = Refusal {
             number: 15,
-            place: failing,
+            place: end.failing,
         };
         return RoundsSaid {
             said: planner::unsaid(why, end.passes, given),
             rounds: 0,
         };
     }
-    let flags = end.flags;
-    let verdict = Verdict {
-        yes: true,
-        forced: flags::count_changed(given, flags),
-        passes: end.passes,
-    };
     let said = Said {
-        answer: Answer::Given(verdict),
-        count: n,
-        flags: flags,
+        answer: Ok(Verdict {
+            yes: true,
+            forced: flags::count_changed(given, end.flags),
+            passes: end.passes,
+        }),
+        count: rows.head.n,
+        flags: end.flags,
     };
     RoundsSaid {
-        said: said,
+        said,
         rounds: end.rounds,
     }
 }
 
 // What edition 2 answers a legal table, from its rows and flags. The bounds of the records are left in the
 // row.
-pub fn rows_second<'a>(
-    job: Job,
-    head: Head,
-    inverse: &'a [u64; 32],
-    rest: &'a [u32; 32],
-    cost: &'a [u32; 32],
-    reach: &'a [u32; 32],
-    given: Flags,
-    bounds: &'a mut [u32; 32],
-) -> RoundsSaid
-    requires { (LegalRows head inverse.now rest.now cost.now reach.now)
-        × (given ≡ held (flag_in given) head.n) × (bounds.old ≡ replicate 32 0) }
-    ensures { OfTable (λ t. legal_second t job) head inverse.now rest.now
-        cost.now reach.now given (said_rounded given result bounds.new) }
+pub fn rows_second(job: Job, rows: &Rows, given: Flags, bounds: &mut [u32; 32]) -> RoundsSaid
+    requires { (given ≡ held (flag_in given) rows.now.head.n) × (bounds.old ≡ replicate 32 0) }
+    ensures { OfTable (λ t. legal_second t job) rows.now given (said_rounded given result bounds.new) }
 {
     match job {
-        Job::Test => tested(head, inverse, rest, cost, reach, given, bounds),
-        Job::Force => forced(head, inverse, rest, cost, reach, given, bounds),
+        Job::Test => tested(rows, given, bounds),
+        Job::Force => forced(rows, given, bounds),
     }
 }
 
@@ -144,34 +103,14 @@ pub fn legal_second(t: Table, job: Job) -> Rounded
     requires { LegalTable t }
     ensures { result ≡ legal_second t job }
 {
-    let mut inverse = [0u64; 32];
-    let mut rest = [0u32; 32];
-    let mut cost = [0u32; 32];
-    let mut reach = [0u32; 32];
-    let mut bounds = [0u32; 32];
-    let head = rows::rows_of(t, &mut inverse, &mut rest, &mut cost, &mut reach);
+    let rows = rows::rows_of(t);
     let given = flags::flags_of(t);
-    let told = rows_second(
-        job,
-        head,
-        &inverse,
-        &rest,
-        &cost,
-        &reach,
-        given,
-        &mut bounds,
-    );
-    let said = told.said;
-    let answer = said.answer;
-    let count = said.count;
-    let flags = said.flags;
+    let mut bounds = [0u32; 32];
+    let RoundsSaid { said, rounds } = rows_second(job, &rows, given, &mut bounds);
     let done = Done {
-        answer: answer,
-        count: count,
-        recs: planner::records(count, given, flags, &bounds),
+        answer: said.answer,
+        count: said.count,
+        recs: planner::records(said.count, given, said.flags, &bounds),
     };
-    Rounded {
-        done: done,
-        rounds: told.rounds,
-    }
+    Rounded { done, rounds }
 }

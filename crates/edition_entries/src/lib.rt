@@ -3,13 +3,13 @@
 // is here passes the list on to `entries`.
 #![tactic(auto)]
 
-ghost use Rattle.std.specs.Prelude.{◌≡◌, ◌≤◌, length};
+ghost use Rattle.std.specs.Prelude.{◌≤◌, length};
 ghost use Rattle.planner.specs.Calls.{plan, tasks as list};
 ghost use Rattle.editions.specs.Editions.{AllowsIn, AnsweredIn};
 
 use edition_2::Rounded;
 use editions::Edition;
-use planner::{Answer, Done, Job, Record};
+use planner::{Answer, Job, Record};
 use table::Task;
 
 // An answer, and the round count of its last test.
@@ -19,31 +19,15 @@ pub struct Reply {
     pub rounds: u32,
 }
 
-// What `put_rounded` asks of an answer with its rounds.
-fn done_in(r: Rounded) -> Done
-    ensures { result ≡ r.done }
-{
-    let d = r.done;
-    d
-}
-
-fn reply_of(answer: Answer, r: Rounded) -> Reply
-    ensures { (result.answer ≡ answer) × (result.rounds ≡ r.rounds) }
-{
-    Reply {
-        answer: answer,
-        rounds: r.rounds,
-    }
-}
-
 // The records of an answer go into the first places of the caller's list, and the rest of the list stays.
 fn put_rounded(records: &mut [Record], r: Rounded) -> Reply
     requires { (r.done.count ≤ length records.old) × (r.done.count ≤ 32) }
     ensures { AllowsIn r records.old result.answer result.rounds records.new }
 {
-    let d = done_in(r);
-    let answer = entries::put_done(records, d);
-    reply_of(answer, r)
+    Reply {
+        answer: entries::put_done(records, r.done),
+        rounds: r.rounds,
+    }
 }
 
 // A plan in lines of hexadecimal. A refusal leaves the records as they were; else each task has one, and the
@@ -52,8 +36,7 @@ pub fn run_plan_in(edition: Edition, text: &[u8], job: Job, records: &mut [Recor
     ensures { AnsweredIn edition (plan text.now) job records.old result.answer
         result.rounds records.new }
 {
-    let room = records.len();
-    let r = editions::plan_in(edition, text, job, room);
+    let r = editions::plan_in(edition, text, job, records.len());
     put_rounded(records, r)
 }
 
@@ -69,9 +52,7 @@ pub fn run_tasks_in(
     ensures { AnsweredIn edition (list cores policy tasks.now) job records.old
         result.answer result.rounds records.new }
 {
-    let n = tasks.len();
-    let room = records.len();
     let all = entries::load_tasks(tasks);
-    let r = editions::list_in(edition, cores, policy, n, all, job, room);
+    let r = editions::list_in(edition, cores, policy, tasks.len(), all, job, records.len());
     put_rounded(records, r)
 }

@@ -1,7 +1,7 @@
 -- What is told of an answer with its rounds, and from the answer in parts to the promises.
 -- Assumes nothing.
 use Rattle.std.proofs.Common.{ℕ, ◌≤◌, arith, ◌≡◌, refl, ap, ap₂, ◌∙◌, List, get_or, set}
-use Rattle.planner.specs.declared.Answer.{Answer}
+use Rattle.planner.specs.Answers.{Answer}
 use Rattle.planner.proofs.CountLaws.{Small}
 use Rattle.edition_2.specs.declared.Rounded.{Rounded}
 use Rattle.asked_in.specs.declared.AskedIn.{AskedIn}

@@ -7,7 +7,7 @@
 --
 -- Assumes nothing.
 use Rattle.std.specs.Prelude.{ℕ, ◌/◌, ◌≡◌, Bool, List, length, set}
-use Rattle.planner.specs.declared.Answer.{Answer}
+use Rattle.planner.specs.Answers.{Answer}
 use Rattle.planner.specs.declared.Job.{Job}
 use Rattle.words.specs.Word.{word_of_done}
 use Rattle.edition_2.specs.declared.Rounded.{Rounded}

@@ -14,11 +14,9 @@ fn tell(answer: &mut [u32], asked: AskedIn) -> u32
     requires { asked.asked.count ≤ 32 }
     ensures { HeardIn asked answer.old result answer.new }
 {
-    let said = asked.asked;
-    let n = said.count;
-    let found = said.answer;
-    let mut told = told::told_of(found, n as u32, said.word);
-    told[6] = asked.rounds;
+    let AskedIn { asked, rounds } = asked;
+    let mut told = told::told_of(asked.answer, asked.count as u32, asked.word);
+    told[6] = rounds;
     told::put_told(answer, told);
     told[2]
 }

@@ -3,12 +3,11 @@
 use Rattle.std.proofs.Common.{ℕ, ◌≤◌, ◌<◌, arith, ◌≡◌, refl, sym, ap, ◌∙◌, true, List, ⊎_elim, length}
 use Rattle.base.specs.Rows.{at}
 use Rattle.table.specs.declared.Table.{Table}
-use Rattle.planner.specs.declared.Answer.{Answer}
+use Rattle.planner.specs.Answers.{Answer, given, refused, entry, record_at, changes}
 use Rattle.planner.specs.declared.Record.{Record}
 use Rattle.planner.specs.declared.Done.{Done}
 use Rattle.planner.specs.declared.Job.{Job}
 use Rattle.planner.specs.declared.Job.TheVariants.{Test, Force}
-use Rattle.planner.specs.Answers.{given, refused, entry, record_at, changes}
 use Rattle.planner.specs.Done.{sent, roomed, failing, list_after}
 use Rattle.planner.specs.Calls.{Call, Sends}
 use Rattle.planner.proofs.CallLaws.{sends_legal, call_cases}

@@ -1,11 +1,9 @@
 -- The stages of edition 2 and the choice of the edition: each return of the code is a case of its definition.
 -- Under the first edition the definitions are the planner's, without rounds. Assumes nothing.
-use Rattle.std.proofs.Common.{ℕ, ◌≤◌, ◌<◌, ◌≡◌, refl, ap, List}
-use Rattle.table.specs.Checks.{refusal, check_of}
-use Rattle.table.specs.declared.Task.{Task}
+use Rattle.std.proofs.Common.{ℕ, ◌≤◌, ◌<◌, ◌≡◌, refl, ap, List, Ok, Err}
 use Rattle.table.specs.declared.Refusal.{Refusal}
-use Rattle.table.specs.declared.Checked.{Checked}
-use Rattle.table.specs.declared.Checked.TheVariants.{Fine, Refused as Faulty}
+use Rattle.table.specs.Checks.{refusal, check_of, Checked}
+use Rattle.table.specs.declared.Task.{Task}
 use Rattle.table.specs.declared.Table.{Table}
 use Rattle.lines.specs.declared.Reading.{Reading}
 use Rattle.lines.specs.Reads.{read_of}
@@ -13,8 +11,7 @@ use Rattle.planner.specs.declared.Job.{Job}
 use Rattle.planner.specs.Done.{refuse, legal_done, plan_done, list_done}
 use Rattle.planner.proofs.StageLaws.{roomed_short, roomed_enough}
 use Rattle.edition_2.specs.Second.{done_second, last_rounds, unrounded, rounded, legal_second}
-use Rattle.editions.specs.declared.Edition.{Edition}
-use Rattle.editions.specs.declared.Edition.TheVariants.{First, Second}
+use Rattle.editions.specs.declared.Edition.TheVariants.{First}
 use Rattle.editions.specs.Editions.{room_second, plan_second, list_second, legal_in, plan_in, list_in}
 
 -- edition 1, as it was; and by the edition
@@ -23,42 +20,15 @@ module _ (t : Table) (job : Job) where
   unfolding legal_in
   legal_first = refl
 
-  pub legal_by_first : {e : Edition} → e ≡ First → unrounded (legal_done t job) ≡ legal_in e t job
-  unfolding legal_in
-  legal_by_first is = rw is
-
-  pub legal_by_second : {e : Edition} → e ≡ Second → legal_second t job ≡ legal_in e t job
-  unfolding legal_in
-  legal_by_second is = rw is
-
 module _ (text : List ℕ) (job : Job) (room : ℕ) where
   pub plan_first : plan_in First text job room ≡ unrounded (plan_done text job room)
   unfolding plan_in
   plan_first = refl
 
-  pub plan_by_first : {e : Edition} → e ≡ First
-      → unrounded (plan_done text job room) ≡ plan_in e text job room
-  unfolding plan_in
-  plan_by_first is = rw is
-
-  pub plan_by_second : {e : Edition} → e ≡ Second → plan_second text job room ≡ plan_in e text job room
-  unfolding plan_in
-  plan_by_second is = rw is
-
 module _ (cores policy n : ℕ) (ts : List Task) (job : Job) (room : ℕ) where
   pub list_first : list_in First cores policy n ts job room ≡ unrounded (list_done cores policy n ts job room)
   unfolding list_in
   list_first = refl
-
-  pub list_by_first : {e : Edition} → e ≡ First
-      → unrounded (list_done cores policy n ts job room) ≡ list_in e cores policy n ts job room
-  unfolding list_in
-  list_by_first is = rw is
-
-  pub list_by_second : {e : Edition} → e ≡ Second
-      → list_second cores policy n ts job room ≡ list_in e cores policy n ts job room
-  unfolding list_in
-  list_by_second is = rw is
 
 -- by the room
 module _ (t : Table) (job : Job) (room : ℕ) where
@@ -72,22 +42,17 @@ module _ (t : Table) (job : Job) (room : ℕ) where
 
 -- by what the reading says, and what the checks say
 module _ (text : List ℕ) {r : Reading} (e : r ≡ read_of text) (job : Job) (room : ℕ) where
-  pub plan_fine : r.answer ≡ Fine → room_second r.table job room ≡ plan_second text job room
+  pub plan_fine : r.answer ≡ Ok tt → room_second r.table job room ≡ plan_second text job room
   unfolding plan_second room_second
   plan_fine fine = rw (← e, fine)
 
-  pub plan_faulty : {why : Refusal} → r.answer ≡ Faulty why
+  pub plan_faulty : {why : Refusal} → r.answer ≡ Err why
       → unrounded (refuse why 0) ≡ plan_second text job room
   unfolding plan_second
   plan_faulty fault = rw (← e, fault)
 
 module _ (t : Table) {found : Checked} (e : found ≡ check_of t) (job : Job) (room : ℕ) where
-  pub list_fine : found ≡ Fine
+  pub list_fine : found ≡ Ok tt
       → room_second t job room ≡ list_second t.cores t.policy t.n t.tasks job room
   unfolding list_second room_second
   list_fine fine = rw (← e, fine)
-
-  pub list_faulty : {why : Refusal} → found ≡ Faulty why
-      → unrounded (refuse why 0) ≡ list_second t.cores t.policy t.n t.tasks job room
-  unfolding list_second
-  list_faulty fault = rw (← e, fault)

@@ -3,7 +3,7 @@
 -- Assumes nothing.
 use Rattle.std.proofs.Common.{ℕ, ◌≡◌, List}
 use Rattle.base.proofs.Unique.{only, Only}
-use Rattle.planner.specs.declared.Answer.{Answer}
+use Rattle.planner.specs.Answers.{Answer}
 use Rattle.planner.specs.declared.Record.{Record}
 use Rattle.edition_2.specs.declared.Rounded.{Rounded}
 use Rattle.editions.specs.Editions.{AllowsIn}

@@ -12,8 +12,7 @@ use Rattle.table.specs.declared.Table.{Table}
 use Rattle.planner.specs.declared.Done.{Done}
 use Rattle.planner.specs.declared.Job.{Job}
 use Rattle.planner.specs.declared.Job.TheVariants.{Test, Force}
-use Rattle.planner.specs.declared.Answer.{Answer}
-use Rattle.planner.specs.Answers.{given}
+use Rattle.planner.specs.Answers.{Answer, given}
 use Rattle.planner.specs.Done.{refuse, failing}
 use Rattle.planner.proofs.StageLaws.{flagged}
 use Rattle.edition_2.specs.declared.Rounded.{Rounded}

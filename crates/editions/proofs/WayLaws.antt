@@ -7,7 +7,7 @@ use Rattle.table.specs.Checks.{refusal}
 use Rattle.table.proofs.TableLaws.{legal_fine, fault_checked}
 use Rattle.lines.proofs.Theorems.{reading_exact, refusal_exact}
 use Rattle.planner.specs.declared.Job.{Job}
-use Rattle.planner.specs.declared.Answer.{Answer}
+use Rattle.planner.specs.Answers.{Answer}
 use Rattle.planner.specs.Done.{refuse}
 use Rattle.planner.specs.Calls.{Call, Sends, by_text, by_list, Faulty, in_text, in_list}
 use Rattle.planner.proofs.CallLaws.{sends_legal, call_cases}

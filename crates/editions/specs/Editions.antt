@@ -14,7 +14,7 @@ use Rattle.table.specs.declared.Task.{Task}
 use Rattle.table.specs.declared.Table.{Table}
 use Rattle.table.specs.Checks.{check_of}
 use Rattle.lines.specs.Reads.{read_of}
-use Rattle.planner.specs.declared.Answer.{Answer}
+use Rattle.planner.specs.Answers.{Answer}
 use Rattle.planner.specs.declared.Job.{Job}
 use Rattle.planner.specs.declared.Record.{Record}
 use Rattle.planner.specs.Done.{legal_done, roomed, unless_faulty, plan_done, table_from, list_done, loaded}

@@ -19,8 +19,7 @@ use Rattle.flags.specs.Flags.{changed}
 use Rattle.planner.specs.declared.Record.{Record}
 use Rattle.planner.specs.declared.Job.{Job}
 use Rattle.planner.specs.declared.Job.TheVariants.{Test, Force}
-use Rattle.planner.specs.declared.Answer.{Answer}
-use Rattle.planner.specs.Answers.{given, refused, entry}
+use Rattle.planner.specs.Answers.{Answer, given, refused, entry}
 use Rattle.planner.specs.Done.{sent, changed_by}
 use Rattle.planner.specs.Calls.{Call, Sends, Faulty}
 use Rattle.edition_2.specs.Second.{tested2, final2, end_of}

@@ -9,7 +9,7 @@ ghost use Rattle.editions.specs.Editions.{room_second, plan_second, list_second,
 
 use edition_2::Rounded;
 use planner::Job;
-use table::{Checked, Refusal, Table, Task};
+use table::{Refusal, Table, Task};
 
 // Which edition of the test is asked for.
 #[derive(Clone, Copy)]
@@ -19,36 +19,35 @@ pub enum Edition {
 }
 
 // 13 before any test, where the caller's list has too little room.
+#[tactic(auto, unfolding(crate::specs::Editions::room_second))]
 fn room_second(t: Table, job: Job, room: usize) -> Rounded
     requires { LegalTable t }
     ensures { result ≡ room_second t job room }
 {
-    let n = t.n;
-    if room < n {
+    if room < t.n {
         let why = Refusal {
             number: 13,
             place: 0,
         };
-        let refused = planner::refused(why, 0);
-        return edition_2::without_rounds(refused);
+        return edition_2::without_rounds(planner::refused(why, 0));
     }
     edition_2::legal_second(t, job)
 }
 
 // What edition 2 answers a plan.
+#[tactic(auto, unfolding(crate::specs::Editions::plan_second))]
 fn plan_second(text: &[u8], job: Job, room: usize) -> Rounded
     ensures { result ≡ plan_second text.now job room }
 {
     let reading = reader::read_plan(text);
-    let found = reading.answer;
-    let t = reading.table;
-    match found {
-        Checked::Fine => room_second(t, job, room),
-        Checked::Refused(why) => edition_2::without_rounds(planner::refused(why, 0)),
+    match reading.answer {
+        Ok(()) => room_second(reading.table, job, room),
+        Err(why) => edition_2::without_rounds(planner::refused(why, 0)),
     }
 }
 
 // And a list of n tasks, of which those past the 32nd are not there.
+#[tactic(auto, unfolding(crate::specs::Editions::list_second))]
 fn list_second(
     cores: u32,
     policy: u32,
@@ -60,19 +59,19 @@ fn list_second(
     ensures { result ≡ list_second cores policy n tasks job room }
 {
     let t = Table {
-        cores: cores,
-        policy: policy,
-        n: n,
-        tasks: tasks,
+        cores,
+        policy,
+        n,
+        tasks,
     };
-    let found = table::check_table(t);
-    match found {
-        Checked::Fine => room_second(t, job, room),
-        Checked::Refused(why) => edition_2::without_rounds(planner::refused(why, 0)),
+    match table::check_table(t) {
+        Ok(()) => room_second(t, job, room),
+        Err(why) => edition_2::without_rounds(planner::refused(why, 0)),
     }
 }
 
 // What a legal table is answered.
+#[tactic(auto, unfolding(crate::specs::Editions::legal_in))]
 pub fn legal_in(edition: Edition, t: Table, job: Job) -> Rounded
     requires { LegalTable t }
     ensures { result ≡ legal_in edition t job }
@@ -84,6 +83,7 @@ pub fn legal_in(edition: Edition, t: Table, job: Job) -> Rounded
 }
 
 // The answer to a plan; room is the length of the caller's list.
+#[tactic(auto, unfolding(crate::specs::Editions::plan_in))]
 pub fn plan_in(edition: Edition, text: &[u8], job: Job, room: usize) -> Rounded
     ensures { result ≡ plan_in edition text.now job room }
 {
@@ -94,6 +94,7 @@ pub fn plan_in(edition: Edition, text: &[u8], job: Job, room: usize) -> Rounded
 }
 
 // The answer to a list of n tasks.
+#[tactic(auto, unfolding(crate::specs::Editions::list_in))]
 pub fn list_in(
     edition: Edition,
     cores: u32,

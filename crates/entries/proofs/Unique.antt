@@ -16,12 +16,11 @@ use Rattle.base.proofs.Unique.{only}
 use Rattle.table.specs.declared.Task.{Task}
 use Rattle.planner.specs.declared.Record.{Record}
 use Rattle.planner.specs.declared.Job.{Job}
-use Rattle.planner.specs.declared.Answer.{Answer}
+use Rattle.planner.specs.Answers.{Answer}
 use Rattle.planner.specs.declared.Done.{Done}
 use Rattle.planner.specs.Done.{loaded}
 use Rattle.planner.specs.Calls.{Call, plan, tasks, done_of, Allows, Answered, list_table}
-use Rattle.writer.specs.declared.Written.{Written}
-use Rattle.writer.specs.Written.{WroteAs}
+use Rattle.writer.specs.Written.{Written, WroteAs}
 use Rattle.writer.proofs.Unique.{wrote_only}
 use Rattle.entries.specs.contracts.put_done as put-done
 use Rattle.entries.specs.contracts.load_tasks as load-tasks

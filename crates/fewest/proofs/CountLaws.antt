@@ -1,12 +1,11 @@
 -- How many records are written: those of the forcing whose answer is given, and the list has room for them.
 -- Assumes nothing.
 use Rattle.std.proofs.Common.{ℕ, zero, suc, ◌≤◌, arith, ◌≡◌, refl, Bool, true, false, List, ltb, ltb-false}
+use Rattle.std.proofs.Common.{Ok, Err}
 use Rattle.base.specs.Choice.{pick, or_else}
-use Rattle.table.specs.Checks.{refusal, check_of}
+use Rattle.table.specs.Checks.{refusal, check_of, Checked}
 use Rattle.table.specs.declared.Task.{Task}
 use Rattle.table.specs.declared.Table.{Table}
-use Rattle.table.specs.declared.Checked.{Checked}
-use Rattle.table.specs.declared.Checked.TheVariants.{Fine, Refused as Faulty}
 use Rattle.table.proofs.TableLaws.{fine_legal}
 use Rattle.lines.specs.Reads.{read_of}
 use Rattle.lines.proofs.Theorems.{read_legal}
@@ -42,12 +41,12 @@ room_fits t room = go (ltb room t.n) refl
         let c : Counted t.n (legal_fewest t).done = fewest_counted t in
         record { counted = c; fits = omega (arith, ltb-false room t.n e, c.most) }
 
-checked_small : (t : Table) (room : ℕ) (c : Checked) → (c ≡ Fine → t.n ≤ 32)
+checked_small : (t : Table) (room : ℕ) (c : Checked) → (c ≡ Ok tt → t.n ≤ 32)
     → Small room (unless_faulty c (room_fewest t room)).done
-checked_small t room Fine legal =
+checked_small t room (Ok _) legal =
     let f : Fits t.n room (room_fewest t room).done = room_fits t room in
     record { fits = f.fits; few = omega (arith, f.counted.most, legal refl); long = f.counted.long }
-checked_small t room (Faulty why) legal =
+checked_small t room (Err why) legal =
     record { fits = omega arith; few = omega arith; long = (refuse_counted 0 why 0).long }
 
 pub plan_small : (text : List ℕ) (room : ℕ) → Small room (plan_fewest text room).done

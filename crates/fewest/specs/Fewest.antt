@@ -10,14 +10,12 @@
 --
 -- A table's own number of cores is checked with the rest of it, and then no more looked at (on_cores).
 -- Assumes nothing.
-use Rattle.std.specs.Prelude.{ℕ, suc, List, length, ltb}
+use Rattle.std.specs.Prelude.{ℕ, suc, List, length, ltb, Ok, Err}
 use Rattle.base.specs.Choice.{pick, or_else}
-use Rattle.table.specs.Checks.{refusal, check_of}
+use Rattle.table.specs.Checks.{refusal, check_of, Checked}
 use Rattle.table.specs.declared.Task.{Task}
 use Rattle.table.specs.declared.Table.{Table}
 use Rattle.table.specs.declared.Refusal.{Refusal}
-use Rattle.table.specs.declared.Checked.{Checked}
-use Rattle.table.specs.declared.Checked.TheVariants.{Fine, Refused as Faulty}
 use Rattle.lines.specs.Reads.{read_of}
 use Rattle.planner.specs.declared.Done.{Done}
 use Rattle.planner.specs.Done.{refuse, force_done, table_from, loaded}
@@ -41,8 +39,8 @@ room_fewest t room = pick (ltb room t.n) (refuse_fewest (refusal 13 0)) (legal_f
 
 -- a fault of the reading or of the checks is the answer; else what follows is
 abbrev pub unless_faulty : Checked → Fewest → Fewest
-unless_faulty Fine f = f
-unless_faulty (Faulty why) f = refuse_fewest why
+unless_faulty (Ok _) f = f
+unless_faulty (Err why) f = refuse_fewest why
 
 unfoldable pub plan_fewest : List ℕ → ℕ → Fewest
 plan_fewest text room = unless_faulty (read_of text).answer (room_fewest (read_of text).table room)

@@ -8,8 +8,8 @@ ghost use Rattle.planner.specs.Done.{force_done};
 ghost use Rattle.cores.specs.Cores.{on_cores, says_yes};
 ghost use Rattle.fewest.specs.Fewest.{refuse_fewest, legal_fewest, room_fewest, plan_fewest, list_fewest};
 
-use planner::{Answer, Done, Job};
-use table::{Checked, Refusal, Table, Task};
+use planner::{Done, Job};
+use table::{Refusal, Table, Task};
 
 // What forcing gives with the fewest cores, and their number; a refusal has 0 for it.
 #[derive(Clone, Copy)]
@@ -23,26 +23,14 @@ fn force_on(t: Table, m: u32) -> Done
     requires { LegalTable t × ((1 ≤ m) × (m ≤ 16)) }
     ensures { result ≡ force_done (on_cores t m) }
 {
-    let n = t.n;
-    let tasks = t.tasks;
-    let other = Table {
-        cores: m,
-        policy: t.policy,
-        n: n,
-        tasks: tasks,
-    };
-    planner::legal_done(other, Job::Force)
+    planner::legal_done(Table { cores: m, ..t }, Job::Force)
 }
 
 // Whether forcing accepted.
 fn says_yes(d: Done) -> bool
     ensures { result ≡ says_yes d }
 {
-    let answer = d.answer;
-    match answer {
-        Answer::Given(v) => v.yes,
-        Answer::Refused { why, passes } => false,
-    }
+    d.answer.is_ok_and(|v| v.yes)
 }
 
 // The fewest cores for a legal table. With `low` cores forcing refuses, or there are none; with `high` it
@@ -53,13 +41,11 @@ pub fn legal_fewest(t: Table) -> Fewest
 {
     let mut done = force_on(t, 16);
     if !says_yes(done) {
-        return Fewest {
-            done: done,
-            cores: 0,
-        };
+        return Fewest { done, cores: 0 };
     }
-    let mut low: u32 = 0;
-    let mut high: u32 = 16;
+    let mut low = 0;
+    let mut high = 16;
+    // A while: the range is halved, no range gives its values.
     while low + 1 < high {
         let middle = (low + high) / 2;
         let tried = force_on(t, middle);
@@ -70,30 +56,26 @@ pub fn legal_fewest(t: Table) -> Fewest
             low = middle;
         }
     }
-    Fewest {
-        done: done,
-        cores: high,
-    }
+    Fewest { done, cores: high }
 }
 
 // A refusal: no cores.
 fn refused(why: Refusal) -> Fewest
     ensures { result ≡ refuse_fewest why }
 {
-    let done = planner::refused(why, 0);
     Fewest {
-        done: done,
+        done: planner::refused(why, 0),
         cores: 0,
     }
 }
 
 // 13 before any forcing, where the caller's list has too little room.
+#[tactic(auto, unfolding(crate::specs::Fewest::room_fewest))]
 fn room_fewest(t: Table, room: usize) -> Fewest
     requires { LegalTable t }
     ensures { result ≡ room_fewest t room }
 {
-    let n = t.n;
-    if room < n {
+    if room < t.n {
         let why = Refusal {
             number: 13,
             place: 0,
@@ -104,32 +86,31 @@ fn room_fewest(t: Table, room: usize) -> Fewest
 }
 
 // The fewest cores for a plan; room is the length of the caller's list.
+#[tactic(auto, unfolding(crate::specs::Fewest::plan_fewest))]
 pub fn plan_fewest(text: &[u8], room: usize) -> Fewest
     ensures { result ≡ plan_fewest text.now room }
 {
     let reading = reader::read_plan(text);
-    let found = reading.answer;
-    let t = reading.table;
-    match found {
-        Checked::Fine => room_fewest(t, room),
-        Checked::Refused(why) => refused(why),
+    match reading.answer {
+        Ok(()) => room_fewest(reading.table, room),
+        Err(why) => refused(why),
     }
 }
 
 // The fewest cores for a list of n tasks, of which those past the 32nd are not there. The caller's number of
 // cores is checked, and otherwise not used.
+#[tactic(auto, unfolding(crate::specs::Fewest::list_fewest))]
 pub fn list_fewest(cores: u32, policy: u32, n: usize, tasks: [Task; 32], room: usize) -> Fewest
     ensures { result ≡ list_fewest cores policy n tasks room }
 {
     let t = Table {
-        cores: cores,
-        policy: policy,
-        n: n,
-        tasks: tasks,
+        cores,
+        policy,
+        n,
+        tasks,
     };
-    let found = table::check_table(t);
-    match found {
-        Checked::Fine => room_fewest(t, room),
-        Checked::Refused(why) => refused(why),
+    match table::check_table(t) {
+        Ok(()) => room_fewest(t, room),
+        Err(why) => refused(why),
     }
 }

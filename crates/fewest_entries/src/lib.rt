@@ -2,12 +2,13 @@
 // caller's list. Neither asks anything of its caller. The work is done by value in `fewest`.
 #![tactic(auto)]
 
-ghost use Rattle.std.specs.Prelude.{◌≡◌};
+ghost use Rattle.std.specs.Prelude.{◌≡◌, ◌≤◌, length};
+ghost use Rattle.planner.specs.Done.{list_after};
 ghost use Rattle.fewest_entries.specs.Calls.{reply_of, Replied};
 ghost use Rattle.planner.specs.Calls.{plan, tasks as list};
 
 use fewest::Fewest;
-use planner::{Answer, Done, Record};
+use planner::{Answer, Record};
 use table::Task;
 
 // An answer, and with how many cores it was found; 0 cores in a refusal.
@@ -17,21 +18,13 @@ pub struct Reply {
     pub cores: u32,
 }
 
-// What the entries ask of what was found.
-fn done_of(f: Fewest) -> Done
-    ensures { result ≡ f.done }
+// What was found, with its records in the caller's list.
+fn put_fewest(records: &mut [Record], f: Fewest) -> Reply
+    requires { (f.done.count ≤ length records.old) × (f.done.count ≤ 32) }
+    ensures { (result ≡ reply_of f) × (records.new ≡ list_after f.done records.old) }
 {
-    let done = f.done;
-    done
-}
-
-fn reply_of(f: Fewest) -> Reply
-    ensures { result ≡ reply_of f }
-{
-    let done = f.done;
-    let answer = done.answer;
     Reply {
-        answer: answer,
+        answer: entries::put_done(records, f.done),
         cores: f.cores,
     }
 }
@@ -41,11 +34,8 @@ fn reply_of(f: Fewest) -> Reply
 pub fn fewest_plan(text: &[u8], records: &mut [Record]) -> Reply
     ensures { Replied (plan text.now) records.old result records.new }
 {
-    let room = records.len();
-    let f = fewest::plan_fewest(text, room);
-    let d = done_of(f);
-    entries::put_done(records, d);
-    reply_of(f)
+    let f = fewest::plan_fewest(text, records.len());
+    put_fewest(records, f)
 }
 
 // Cores, policy and a list of tasks, whatever their numbers are. The records go as for a plan.
@@ -53,11 +43,7 @@ pub fn fewest_tasks(cores: u32, policy: u32, tasks: &[Task], records: &mut [Reco
     ensures { Replied (list cores policy tasks.now) records.old result
         records.new }
 {
-    let n = tasks.len();
-    let room = records.len();
     let all = entries::load_tasks(tasks);
-    let f = fewest::list_fewest(cores, policy, n, all, room);
-    let d = done_of(f);
-    entries::put_done(records, d);
-    reply_of(f)
+    let f = fewest::list_fewest(cores, policy, tasks.len(), all, records.len());
+    put_fewest(records, f)
 }

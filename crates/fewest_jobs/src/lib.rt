@@ -15,13 +15,11 @@ fn tell(records: &mut [u32], answer: &mut [u32], f: Fewest) -> u32
     ensures { FewestTold f records.old answer.old result records.new
         answer.new }
 {
-    let d = f.done;
-    let n = d.count;
-    let found = d.answer;
-    let mut told = told::told_of(found, n as u32, words::done_word(d));
-    told[7] = f.cores;
+    let Fewest { done, cores } = f;
+    let mut told = told::told_of(done.answer, done.count as u32, words::done_word(done));
+    told[7] = cores;
     told::put_told(answer, told);
-    flat::put_records(records, d);
+    flat::put_records(records, done);
     told[2]
 }
 
@@ -30,8 +28,7 @@ pub fn fewest_plan(text: &[u8], records: &mut [u32], answer: &mut [u32]) -> u32
     ensures { PlanFewestTold text.now records.old answer.old result
         records.new answer.new }
 {
-    let room = records.len() / 3;
-    let f = fewest::plan_fewest(text, room);
+    let f = fewest::plan_fewest(text, records.len() / 3);
     tell(records, answer, f)
 }
 

@@ -1,13 +1,12 @@
 -- What was found for a legal table: a yes comes with 1 to 16 cores, and its listing with the line above it
 -- fits; so does a refusal. Assumes nothing.
-use Rattle.std.proofs.Common.{ℕ, ◌+◌, ◌≤◌, arith, le_refl, ◌≡◌, sym, ap, subst, ◌∙◌, true, false, List}
-use Rattle.std.proofs.Common.{◌++◌, append_assoc, append-nil, length, length-append}
+use Rattle.std.proofs.Common.{ℕ, ◌+◌, ◌≤◌, arith, le_refl, ◌≡◌, sym, ap, subst, ◌∙◌, true, false, List, ◌++◌}
+use Rattle.std.proofs.Common.{append_assoc, append-nil, length, length-append, Ok, Err}
 use Rattle.table.specs.Table.{LegalTable}
 use Rattle.table.specs.declared.Table.{Table}
 use Rattle.table.specs.declared.Refusal.{Refusal}
 use Rattle.planner.specs.declared.Verdict.{Verdict}
-use Rattle.planner.specs.declared.Answer.{Answer}
-use Rattle.planner.specs.declared.Answer.TheVariants.{Given, Refused}
+use Rattle.planner.specs.Answers.{Answer, stop}
 use Rattle.planner.specs.Done.{force_done, legal_done}
 use Rattle.buffer.specs.Put.{Put}
 use Rattle.buffer.proofs.PutLaws.{put_length}
@@ -45,7 +44,7 @@ module _ {t : Table} (legal : LegalTable t) where
   found_ways e = subst (FewestWays t) (sym e) (fewest_ways t)
 
   -- a yes comes with a number of cores on which the table is legal, and its two texts fit
-  given_found : {f : Fewest} {v : Verdict} → FewestWays t f → f.done.answer ≡ Given v
+  given_found : {f : Fewest} {v : Verdict} → FewestWays t f → f.done.answer ≡ Ok v
       → LegalTable (on_cores t f.cores) × (length (fewest_line f.cores)
       + length (accepted_text (on_cores t f.cores) f.done.recs v.forced v.passes) ≤ fewest_room)
   given_found {v = v} (fewest_found {m} some most ok before) e = (
@@ -54,7 +53,7 @@ module _ {t : Table} (legal : LegalTable t) where
       arith,
       line_length_lem m,
       two m (omega arith),
-      force_fits (on_cores t m) (legal_on legal some most) (Given v) e,
+      force_fits (on_cores t m) (legal_on legal some most) (Ok v) e,
     ),
   )
   given_found (fewest_refused none) e =
@@ -62,21 +61,24 @@ module _ {t : Table} (legal : LegalTable t) where
       absurd (let y : ◌≡◌ {A = ℕ} 0 1 = cc in omega arith)
 
   refused_found : {f : Fewest} {why : Refusal} {p : ℕ} → FewestWays t f
-      → f.done.answer ≡ Refused why p
+      → f.done.answer ≡ Err (stop why p)
       → length (refusal_line why.number why.place p) ≤ fewest_room
   refused_found {why = why} {p = p} (fewest_found {m} some most ok before) e =
-      omega (arith, force_fits (on_cores t m) (legal_on legal some most) (Refused why p) e)
+      omega (arith, force_fits (on_cores t m) (legal_on legal some most) (Err (stop why p)) e)
   refused_found {why = why} {p = p} (fewest_refused none) e =
-      omega (arith, force_fits (on_cores t 16) (legal_on legal (omega arith) (le_refl 16)) (Refused why p) e)
+      omega (
+        arith,
+        force_fits (on_cores t 16) (legal_on legal (omega arith) (le_refl 16)) (Err (stop why p)) e,
+      )
 
   -- in the code's words: what was found has room in the buffer
   module _ {f : Fewest} (e : f ≡ legal_fewest t) where
-    pub cores_room : {v : Verdict} {n : ℕ} → fewest_room ≤ n → f.done.answer ≡ Given v
+    pub cores_room : {v : Verdict} {n : ℕ} → fewest_room ≤ n → f.done.answer ≡ Ok v
         → length (fewest_line f.cores) ≤ n
     cores_room enough said = omega (arith, (given_found (found_ways e) said).1)
 
     pub accepted_room : {v : Verdict} {out out' : List ℕ} {a : ℕ} → fewest_room ≤ length out
-        → f.done.answer ≡ Given v → Put out 0 (fewest_line f.cores) a out'
+        → f.done.answer ≡ Ok v → Put out 0 (fewest_line f.cores) a out'
         → LegalTable (on_cores t f.cores)
         × (a + length (accepted_text (on_cores t f.cores) f.done.recs v.forced v.passes)
         ≤ length out')
@@ -84,6 +86,6 @@ module _ {t : Table} (legal : LegalTable t) where
         let g = given_found (found_ways e) said in
         (g.0, omega (arith, g.1, p.next, put_length p))
 
-    pub refused_room : {why : Refusal} {p n : ℕ} → fewest_room ≤ n → f.done.answer ≡ Refused why p
+    pub refused_room : {why : Refusal} {p n : ℕ} → fewest_room ≤ n → f.done.answer ≡ Err (stop why p)
         → 0 + length (refusal_line why.number why.place p) ≤ n
     refused_room enough said = omega (arith, refused_found (found_ways e) said)

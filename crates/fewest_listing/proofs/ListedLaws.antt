@@ -1,8 +1,8 @@
 -- The ways through the writing of a listing on the fewest cores: which text each answer has, and what the
 -- buffer then holds. Assumes nothing.
-use Rattle.std.proofs.Common.{ℕ, ◌+◌, ◌≤◌, ◌<◌, arith, ◌≡◌, sym, ap, ◌∙◌, List, length, lt-ltb, le-ltb}
+use Rattle.std.proofs.Common.{ℕ, ◌+◌, ◌≤◌, ◌<◌, arith, ◌≡◌, sym, ap, ◌∙◌, List, length, lt-ltb, le-ltb, Ok}
+use Rattle.std.proofs.Common.{Err}
 use Rattle.table.specs.declared.Refusal.{Refusal}
-use Rattle.table.specs.declared.Checked.TheVariants.{Fine, Refused as Faulty}
 use Rattle.lines.specs.Reads.{read_of}
 use Rattle.lines.specs.declared.Reading.{Reading}
 use Rattle.lines.proofs.Theorems.{read_legal}
@@ -20,21 +20,21 @@ module _ (text : List ℕ) {r : Reading} (re : r ≡ read_of text) where
   answer_is : r.answer ≡ (read_of text).answer
   answer_is = ap (λ (x : Reading). x.answer) re
 
-  pub listing_found : {f : Fewest} → r.answer ≡ Fine → f ≡ legal_fewest r.table
+  pub listing_found : {f : Fewest} → r.answer ≡ Ok tt → f ≡ legal_fewest r.table
       → text_of r.table f ≡ fewest_listing text
   unfolding fewest_listing plan_fewest
   listing_found {f} fine fe =
-      let e : (read_of text).answer ≡ Fine = sym answer_is ∙ fine in
+      let e : (read_of text).answer ≡ Ok tt = sym answer_is ∙ fine in
       ap (text_of r.table) fe
       ∙ ap (λ (x : Reading). text_of x.table (legal_fewest x.table)) re
       ∙ rw (e, ← room_enough (read_of text).table 32 (read_legal text e).count)
 
-  pub listing_faulty : {why : Refusal} → r.answer ≡ Faulty why
+  pub listing_faulty : {why : Refusal} → r.answer ≡ Err why
       → refusal_line why.number why.place 0 ≡ fewest_listing text
   unfolding fewest_listing plan_fewest
   listing_faulty fault = rw (sym answer_is ∙ fault)
 
-  pub refusal_room : {why : Refusal} {n : ℕ} → r.answer ≡ Faulty why → fewest_room ≤ n
+  pub refusal_room : {why : Refusal} {n : ℕ} → r.answer ≡ Err why → fewest_room ≤ n
       → 0 + length (refusal_line why.number why.place 0) ≤ n
   refusal_room fault enough = refusal_ready text re fault (omega arith)
 

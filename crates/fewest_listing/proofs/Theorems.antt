@@ -6,7 +6,7 @@
 --   below the line with M it is the listing of the plan with M in its head   listing_with_cores
 --
 -- Assumes nothing.
-use Rattle.std.proofs.Common.{ℕ, suc, arith, ◌≡◌, refl, sym, ap, ◌∙◌, true, List, ◌++◌, take}
+use Rattle.std.proofs.Common.{ℕ, suc, arith, ◌≡◌, refl, sym, ap, ◌∙◌, true, List, ◌++◌, take, Ok, Err}
 use Rattle.base.proofs.Unique.{OnlyWith}
 use Rattle.base.proofs.FirstLaws.{First, is_first}
 use Rattle.table.specs.declared.Table.{Table}
@@ -17,10 +17,8 @@ use Rattle.lines.specs.Writes.{WrittenAs, plan_text}
 use Rattle.lines.proofs.Theorems.{reading_exact, reading_settled, text_accepted}
 use Rattle.lines.proofs.Letters.{raised_read}
 use Rattle.planner.specs.declared.Record.{Record}
-use Rattle.planner.specs.declared.Answer.{Answer}
-use Rattle.planner.specs.declared.Answer.TheVariants.{Given, Refused}
+use Rattle.planner.specs.Answers.{Answer, values_of}
 use Rattle.planner.specs.declared.Job.TheVariants.{Force}
-use Rattle.planner.specs.Answers.{values_of}
 use Rattle.planner.specs.Done.{force_done, legal_done, plan_done}
 use Rattle.planner.proofs.StageLaws.{room_enough}
 use Rattle.listing.specs.Listing.{answer_text, listing_of}
@@ -53,8 +51,8 @@ listing_written u e legal = rw (e, ← room_enough u Force 32 legal.count)
 -- a yes has the line above it
 line_above : (t : Table) (m : ℕ) (rs : List Record) (a : Answer) → (values_of 0 a).yes ≡ true
     → text_by t m rs a ≡ fewest_line m ++ answer_text (on_cores t m) rs a
-line_above t m rs (Given v) h = refl
-line_above t m rs (Refused why p) h = absurd (let z : ◌≡◌ {A = ℕ} 0 1 = cc in omega arith)
+line_above t m rs (Ok v) h = refl
+line_above t m rs (Err s) h = absurd (let z : ◌≡◌ {A = ℕ} 0 1 = cc in omega arith)
 
 pub listing_with_cores : (text : List ℕ) (t : Table) (j : ℕ) → read_of text ≡ accepted t
     → fewest_cores t ≡ suc j

@@ -7,14 +7,13 @@
 --   what a buffer holds then                             FewestListed
 --
 -- Assumes nothing.
-use Rattle.std.specs.Prelude.{ℕ, ◌≤◌, ◌≡◌, List, [], ◌∷◌, ◌++◌, length, drop, ltb}
+use Rattle.std.specs.Prelude.{ℕ, ◌≤◌, ◌≡◌, List, [], ◌∷◌, ◌++◌, length, drop, ltb, Ok, Err}
 use Rattle.base.specs.Choice.{pick}
 use Rattle.table.specs.Table.{LegalTable}
 use Rattle.table.specs.declared.Table.{Table}
 use Rattle.lines.specs.Reads.{read_of}
 use Rattle.planner.specs.declared.Record.{Record}
-use Rattle.planner.specs.declared.Answer.{Answer}
-use Rattle.planner.specs.declared.Answer.TheVariants.{Given, Refused}
+use Rattle.planner.specs.Answers.{Answer}
 use Rattle.page.specs.Decimal.{decimal}
 use Rattle.page.specs.Words.{word, line}
 use Rattle.listing_lines.specs.Lines.{refusal_line}
@@ -28,8 +27,8 @@ fewest_line m = line (word "fewest" ∷ decimal m ∷ [])
 
 -- by forcing's answer on m cores
 abbrev pub text_by : Table → ℕ → List Record → Answer → List ℕ
-text_by t m rs (Given v) = fewest_line m ++ accepted_text (on_cores t m) rs v.forced v.passes
-text_by t m rs (Refused why passes) = refusal_line why.number why.place passes
+text_by t m rs (Ok v) = fewest_line m ++ accepted_text (on_cores t m) rs v.forced v.passes
+text_by t m rs (Err s) = refusal_line s.why.number s.why.place s.passes
 
 abbrev pub text_of : Table → Fewest → List ℕ
 text_of t f = text_by t f.cores f.done.recs f.done.answer

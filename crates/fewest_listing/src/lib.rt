@@ -7,8 +7,7 @@ ghost use Rattle.buffer.specs.Put.{Put};
 ghost use Rattle.fewest_listing.specs.FewestListing.{fewest_line, text_of, Ready, FewestListed};
 
 use fewest::Fewest;
-use planner::Answer;
-use table::{Checked, Table};
+use table::Table;
 
 // Every listing fits in so many bytes, with the line above it.
 pub const FEWEST_ROOM: usize = 2064;
@@ -27,26 +26,20 @@ fn put_found(out: &mut [u8], t: Table, f: Fewest) -> usize
     requires { Ready t f out.old }
     ensures { Put out.old 0 (text_of t f) result out.new }
 {
-    let cores = f.cores;
-    let done = f.done;
-    let recs = done.recs;
-    let said = done.answer;
-    let n = t.n;
-    let tasks = t.tasks;
-    let other = Table {
-        cores: cores,
-        policy: t.policy,
-        n: n,
-        tasks: tasks,
-    };
-    match said {
-        Answer::Given(v) => {
+    let Fewest { done, cores } = f;
+    match done.answer {
+        Ok(v) => {
             let a = put_cores(out, cores);
-            listing::put_accepted(out, a, other, recs, v.forced, v.passes)
+            let other = Table { cores, ..t };
+            listing::put_accepted(out, a, other, done.recs, v.forced, v.passes)
         }
-        Answer::Refused { why, passes } => {
-            refusal_line::put_refusal(out, 0, why.number, why.place, passes)
-        }
+        Err(stop) => refusal_line::put_refusal(
+            out,
+            0,
+            stop.why.number,
+            stop.why.place,
+            stop.passes,
+        ),
     }
 }
 
@@ -59,10 +52,9 @@ pub fn write_fewest(text: &[u8], out: &mut [u8]) -> usize
         return 0;
     }
     let reading = reader::read_plan(text);
-    let found = reading.answer;
     let table = reading.table;
-    match found {
-        Checked::Fine => put_found(out, table, fewest::legal_fewest(table)),
-        Checked::Refused(why) => refusal_line::put_refusal(out, 0, why.number, why.place, 0),
+    match reading.answer {
+        Ok(()) => put_found(out, table, fewest::legal_fewest(table)),
+        Err(why) => refusal_line::put_refusal(out, 0, why.number, why.place, 0),
     }
 }

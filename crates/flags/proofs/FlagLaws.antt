@@ -81,10 +81,6 @@ pub same_unchanged : (a b : ℕ) → a ≡ b → 0 ≡ changed a b
 unfolding changed
 same_unchanged a b e = rw (eq-eqb a b e)
 
-pub other_changed : (a b : ℕ) → (a ≡ b → ⊥) → 1 ≡ changed a b
-unfolding changed
-other_changed a b ne = rw (ne_eqb a b ne)
-
 pub changed_small : (a b : ℕ) {x : ℕ} → x ≡ changed a b → x ≤ 1
 unfolding changed
 changed_small a b e = rw e (go (eqb a b))

@@ -54,13 +54,9 @@ pub fn flags_of(t: Table) -> Flags
     requires { LegalTable t }
     ensures { result ≡ held (at (flags_of t)) t.n }
 {
-    let n = t.n;
     let mut flags = NO_FLAGS;
-    let mut i: usize = 0;
-    while i < n {
-        let next = with_flag(flags, i, t.tasks[i].flag);
-        flags = next;
-        i += 1;
+    for (i, task) in t.tasks[..t.n].iter().enumerate() {
+        flags = with_flag(flags, i, task.flag);
     }
     flags
 }
@@ -71,11 +67,8 @@ pub fn failing_of(n: usize, bounds: &[u32; 32]) -> Flags
     ensures { result ≡ held (at bounds.now) n }
 {
     let mut failing = NO_FLAGS;
-    let mut i: usize = 0;
-    while i < n {
-        let next = with_flag(failing, i, bounds[i]);
-        failing = next;
-        i += 1;
+    for (i, &bound) in bounds[..n].iter().enumerate() {
+        failing = with_flag(failing, i, bound);
     }
     failing
 }
@@ -100,7 +93,7 @@ pub fn last_lacking(flags: Flags, failing: Flags) -> usize
 pub fn change(before: u32, after: u32) -> u32
     ensures { result ≡ changed before after }
 {
-    if before == after { 0 } else { 1 }
+    u32::from(before != after)
 }
 
 // The word of the first n flags, for who holds such a word: zeros from bit n up, for n = 32 too.

@@ -22,11 +22,7 @@ pub fn put_records(out: &mut [u32], d: Done)
     requires { Fits d (length out.old) }
     ensures { out.new ≡ flat_after d out.old }
 {
-    let n = d.count;
-    let mut i: usize = 0;
-    while i < n {
-        let r = d.recs[i];
-        put_record(out, i, r);
-        i += 1;
+    for i in 0..d.count {
+        put_record(out, i, d.recs[i]);
     }
 }

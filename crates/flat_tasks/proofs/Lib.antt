@@ -1,3 +1,2 @@
-pub mod CountLaws
 pub mod BackLaws
 pub mod Unique

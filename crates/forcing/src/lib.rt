@@ -5,14 +5,15 @@ ghost use Rattle.std.specs.Prelude.{◌≡◌, replicate, ◌≤◌};
 ghost use Rattle.model.specs.Forcing.{lacks};
 ghost use Rattle.flags.specs.Flags.{flag_in, held};
 ghost use Rattle.rows.specs.Levels.{level_in};
-ghost use Rattle.rows.specs.Held.{system_in, LegalRows};
+ghost use Rattle.rows.specs.Whole.{system_held};
 ghost use Rattle.forcing.specs.Forced.{deepen, below_of, Ended};
 
 use flags::Flags;
-use rows::Head;
+use rows::{Head, Rows};
 
 // Where forcing ends: the final flags, how many tests there were, and the number of the lowest task without
-// a bound in the last of them, 0 for none.
+// a bound in the last of them, 0 for none. A number and no Option: `Ended` compares it with the model's
+// `lowest`, which is a number too.
 #[derive(Clone, Copy)]
 pub struct Forced {
     pub flags: Flags,
@@ -24,13 +25,11 @@ pub struct Forced {
 fn deeper(below: u32, level: u32, flag: u32, failed: u32) -> u32
     ensures { result ≡ deepen below level (lacks flag failed) }
 {
-    if flag == 0 {
-        return below;
+    if flag != 0 && failed == 0 {
+        below.max(level)
+    } else {
+        below
     }
-    if failed != 0 {
-        return below;
-    }
-    if below < level { level } else { below }
 }
 
 // Whose levels are smaller than this may see that the failing tasks became non-preemptive: under EDF all,
@@ -43,10 +42,8 @@ fn below_of(head: Head, flags: Flags, failing: Flags) -> u32
     if head.policy == 0 {
         return 33;
     }
-    let n = head.n;
     let mut below: u32 = 0;
-    let mut i: usize = 0;
-    while i < n {
+    for i in 0..head.n {
         let level = rows::level_at(head.levels, i);
         below = deeper(
             below,
@@ -54,7 +51,6 @@ fn below_of(head: Head, flags: Flags, failing: Flags) -> u32
             flags::flag_at(flags, i),
             flags::flag_at(failing, i),
         );
-        i += 1;
     }
     below
 }
@@ -62,40 +58,31 @@ fn below_of(head: Head, flags: Flags, failing: Flags) -> u32
 // Forcing: preemptive tasks are tested until each has a bound; after each test but the last, those that have
 // none become non-preemptive at once. Then the others are tested. Where each task has a bound, it is in its
 // place in the row.
-pub fn force_rows<'a>(
-    head: Head,
-    inverse: &'a [u64; 32],
-    rest: &'a [u32; 32],
-    cost: &'a [u32; 32],
-    reach: &'a [u32; 32],
-    given: Flags,
-    bounds: &'a mut [u32; 32],
-) -> Forced
-    requires { (LegalRows head inverse.now rest.now cost.now reach.now)
-        × (given ≡ held (flag_in given) head.n) × (bounds.old ≡ replicate 32 0) }
-    ensures { Ended (system_in head rest.now cost.now reach.now)
+pub fn force_rows(rows: &Rows, given: Flags, bounds: &mut [u32; 32]) -> Forced
+    requires { (given ≡ held (flag_in given) rows.now.head.n) × (bounds.old ≡ replicate 32 0) }
+    ensures { Ended (system_held rows.now)
         given bounds.new result }
 {
-    let n = head.n;
+    let n = rows.head.n;
     let mut flags = given;
     let mut below: u32 = 33;
     let mut passes: u32 = 1;
+    // A loop: only a pass says whether there is a next one.
     loop {
-        passes::search_on(head, inverse, rest, cost, reach, flags, below, bounds);
+        passes::search_on(rows, flags, below, bounds);
         let failing = flags::failing_of(n, bounds);
         let last = flags::last_lacking(flags, failing);
         if last == 0 {
-            passes::search_rest(head, inverse, rest, cost, reach, flags, bounds);
+            passes::search_rest(rows, flags, bounds);
             let left = flags::failing_of(n, bounds);
             return Forced {
-                flags: flags,
-                passes: passes,
+                flags,
+                passes,
                 failing: flags::lowest_failing(left),
             };
         }
-        let next = flags::with_failing(flags, failing);
-        below = below_of(head, flags, failing);
-        flags = next;
+        below = below_of(rows.head, flags, failing);
+        flags = flags::with_failing(flags, failing);
         passes += 1;
     }
 }

@@ -4,5 +4,5 @@ use Rattle.base.proofs.Unique.{only, Only}
 use Rattle.frame_reader.proofs.frame_fault.Kinds as frame-fault
 use Rattle.frame_reader.proofs.frame_fault.Reads as frame-fault-reads
 
-pub frame_fault_only : Only 1 frame-fault.ps frame-fault.r frame-fault-reads.Post
+pub frame_fault_only : Only 2 frame-fault.ps frame-fault.r frame-fault-reads.Post
 frame_fault_only κs a x y s s' p q = only p q

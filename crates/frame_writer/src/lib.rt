@@ -6,18 +6,13 @@ ghost use Rattle.buffer.specs.Put.{Put};
 ghost use Rattle.frames.specs.Digits.{digit_text};
 ghost use Rattle.frames.specs.Text.{bytes_text, line_text};
 
-fn wide(x: u8) -> u32
-    ensures { (result ≡ x) × (result < 256) }
-{
-    x as u32
-}
-
 // The byte of a digit.
+#[tactic(auto, unfolding(frames::specs::Digits::digit_text))]
 fn letter(d: u8) -> u8
     requires { d < 16 }
     ensures { result ≡ digit_text d }
 {
-    if d < 10 { 48 + d } else { 55 + d }
+    if d < 10 { b'0' + d } else { b'A' - 10 + d }
 }
 
 // The two digits of a byte; the answer is the place after them.
@@ -36,17 +31,14 @@ pub fn put_line(out: &mut [u8], frame: [u8; 16], size: usize) -> usize
     requires { (size ≤ 16) × (2 * size + 3 ≤ length out.old) }
     ensures { Put out.old 0 (line_text (take size frame)) result out.new }
 {
-    let mut at: usize = 0;
+    let mut at = 0;
     let mut sum: u32 = 0;
-    let mut i: usize = 0;
-    while i < size {
-        let b = frame[i];
+    for &b in &frame[..size] {
         at = put_byte(out, at, b);
-        sum += wide(b);
-        i += 1;
+        sum += u32::from(b);
     }
     let check = (256 - sum % 256) % 256;
     let end = put_byte(out, at, check as u8);
-    out[end] = 10;
+    out[end] = b'\n';
     end + 1
 }

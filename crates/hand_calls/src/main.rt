@@ -3,30 +3,22 @@
 // text.
 #![tactic(auto)]
 
-ghost use Rattle.std.specs.Prelude.{◌<◌};
-
 use planner::{Answer, Done, Job, Verdict};
 use table::Task;
 
 fn task(period: u32, cost: u32, deadline: u32, flag: u32) -> Task {
     Task {
-        flag: flag,
-        period: period,
-        cost: cost,
-        deadline: deadline,
+        flag,
+        period,
+        cost,
+        deadline,
         level: 1,
     }
 }
 
 // The same task on a level.
 fn on(t: Task, level: u32) -> Task {
-    Task {
-        flag: t.flag,
-        period: t.period,
-        cost: t.cost,
-        deadline: t.deadline,
-        level: level,
-    }
+    Task { level, ..t }
 }
 
 // The first three tasks of a list, with their places as levels.
@@ -42,7 +34,7 @@ fn three(a: Task, b: Task, c: Task) -> [Task; 32] {
 // A word and a number after it.
 fn put(word: &[u8], x: u32) {
     io::write_all(1, word);
-    io::print_decimal(1, x as u64);
+    io::print_decimal(1, u64::from(x));
 }
 
 // Forcing has passes, a test has none.
@@ -61,11 +53,11 @@ fn put_verdict(v: Verdict) {
 
 fn put_answer(answer: Answer) {
     match answer {
-        Answer::Given(v) => put_verdict(v),
-        Answer::Refused { why, passes } => {
-            put(b" refused ", why.number);
-            put(b" place ", why.place);
-            put(b" passes ", passes);
+        Ok(v) => put_verdict(v),
+        Err(stop) => {
+            put(b" refused ", stop.why.number);
+            put(b" place ", stop.why.place);
+            put(b" passes ", stop.passes);
         }
     }
 }
@@ -79,25 +71,13 @@ fn put_bound(bound: u32) {
     }
 }
 
-// The bound in record k (from 0), where it is written.
-fn put_record(d: Done, k: usize)
-    requires { k < 3 }
-{
-    let n = d.count;
-    if k < n {
-        let r = d.recs[k];
-        put_bound(r.bound);
-    }
-}
-
-// A line for one case: its name, the answer, the bounds.
+// A line for one case: its name, the answer, the bounds in the first three records that are written.
 fn show(name: &[u8], d: Done) {
     io::write_all(1, name);
-    let answer = d.answer;
-    put_answer(answer);
-    put_record(d, 0);
-    put_record(d, 1);
-    put_record(d, 2);
+    put_answer(d.answer);
+    for r in d.recs.iter().take(d.count.min(3)) {
+        put_bound(r.bound);
+    }
     io::write_all(1, b"\n");
 }
 

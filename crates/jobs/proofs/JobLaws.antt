@@ -1,6 +1,6 @@
 -- What is told of an answer, and from the answer by value to the promises. Assumes nothing.
 use Rattle.std.proofs.Common.{ℕ, ◌≤◌, arith, ◌≡◌, ap, ap₂, ◌∙◌, List, get_or}
-use Rattle.planner.specs.declared.Answer.{Answer}
+use Rattle.planner.specs.Answers.{Answer}
 use Rattle.planner.specs.declared.Done.{Done}
 use Rattle.planner.proofs.CountLaws.{Small}
 use Rattle.asked.specs.declared.Asked.{Asked}

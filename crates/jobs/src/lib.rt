@@ -13,9 +13,7 @@ fn tell(answer: &mut [u32], asked: Asked) -> u32
     requires { asked.count ≤ 32 }
     ensures { Heard asked answer.old result answer.new }
 {
-    let n = asked.count;
-    let found = asked.answer;
-    let told = told::told_of(found, n as u32, asked.word);
+    let told = told::told_of(asked.answer, asked.count as u32, asked.word);
     told::put_told(answer, told);
     told[2]
 }

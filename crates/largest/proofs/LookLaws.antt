@@ -11,14 +11,12 @@ use Rattle.largest.proofs.KeepLaws.{Keeping}
 
 -- what the loop knows: of the first i places, `most` is the largest number left, at `place`
 pub record Looking (x r : ℕ → ℕ) (n most place i : ℕ) : Type 0 where
-  pub range : i ≤ n
   pub up : AllUpTo x r i most
   pub none : n ≤ place → most ≡ 0
   pub here : place < n → (r place ≡ 0) × (x place ≡ most) × (0 < most)
 
 pub look_start : (x r : ℕ → ℕ) (n : ℕ) → Looking x r n 0 n 0
 look_start x r n = record {
-  range = omega arith;
   up = below_none (λ j. r j ≡ 0 → x j ≤ 0);
   none = λ out. refl;
   here = λ lt. absurd (let z : ⊥ = omega arith in z);
@@ -26,9 +24,8 @@ look_start x r n = record {
 
 module _ {x r : ℕ → ℕ} {n most place i : ℕ} (a : Looking x r n most place i) where
   -- the number at i is kept, or not above the largest so far
-  pub look_past : i < n → (r i ≡ 0 → x i ≤ most) → Looking x r n most place (i + 1)
-  look_past lt low = record {
-    range = omega arith;
+  pub look_past : (r i ≡ 0 → x i ≤ most) → Looking x r n most place (i + 1)
+  look_past low = record {
     up = below_next (λ j. r j ≡ 0 → x j ≤ most) i a.up low;
     none = a.none;
     here = a.here;
@@ -37,7 +34,6 @@ module _ {x r : ℕ → ℕ} {n most place i : ℕ} (a : Looking x r n most plac
   -- or it is the largest so far
   pub look_more : i < n → r i ≡ 0 → most < x i → Looking x r n (x i) i (i + 1)
   look_more lt free up = record {
-    range = omega arith;
     up = below_next (λ j. r j ≡ 0 → x j ≤ x i) i (λ j l e. omega (arith, a.up j l e)) (λ e. omega arith);
     none = λ out. absurd (let z : ⊥ = omega arith in z);
     here = λ inside. (free, refl, omega arith);

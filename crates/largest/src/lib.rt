@@ -7,39 +7,32 @@ ghost use Rattle.base.specs.Rows.{at};
 ghost use Rattle.largest.specs.Largest.{Largest, MostLeft};
 
 // The place of the largest number that is not kept yet, and n where no number above 0 is left.
-fn largest_left<'a>(x: &'a [u32; 32], n: usize, kept: &'a [u32; 32]) -> usize
+fn largest_left(x: &[u32; 32], n: usize, kept: &[u32; 32]) -> usize
     requires { n ≤ 32 }
     ensures { MostLeft (at x.now) (at kept.now) n result }
 {
     let mut most: u32 = 0;
     let mut place = n;
-    let mut i: usize = 0;
-    while i < n {
-        let number = x[i];
-        if kept[i] == 0 {
-            if most < number {
-                most = number;
-                place = i;
-            }
+    for i in 0..n {
+        if kept[i] == 0 && most < x[i] {
+            most = x[i];
+            place = i;
         }
-        i += 1;
     }
     place
 }
 
 // Keeps m of the largest of the first n numbers, all those above 0 where there are fewer, in an empty row.
-pub fn keep_largest<'a>(x: &'a [u32; 32], m: u32, n: usize, kept: &'a mut [u32; 32])
+pub fn keep_largest(x: &[u32; 32], m: u32, n: usize, kept: &mut [u32; 32])
     requires { (n ≤ 32) × (kept.old ≡ replicate 32 0) }
     ensures { (length kept.new ≡ 32)
         × (Largest (at x.now) (at kept.new) m n) }
 {
-    let mut count: u32 = 0;
-    while count < m {
+    for _ in 0..m {
         let place = largest_left(x, n, kept);
         if n <= place {
             return;
         }
         kept[place] = x[place];
-        count += 1;
     }
 }

@@ -6,8 +6,8 @@ use Rattle.line_reader.proofs.read_head.Reads as read-head-reads
 use Rattle.line_reader.proofs.read_task.Kinds as read-task
 use Rattle.line_reader.proofs.read_task.Reads as read-task-reads
 
-pub read_head_only : Only 1 read_head.ps read_head.r read-head-reads.Post
+pub read_head_only : Only 2 read_head.ps read_head.r read-head-reads.Post
 read_head_only κs a x y s s' p q = only p q
 
-pub read_task_only : Only 1 read-task.ps read-task.r read-task-reads.Post
+pub read_task_only : Only 2 read-task.ps read-task.r read-task-reads.Post
 read_task_only κs a x y s s' p q = only p q

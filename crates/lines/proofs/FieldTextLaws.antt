@@ -30,7 +30,7 @@ head_line_back s r = line_back s 4 1 r ∙ ap line_text (head_bytes_lem s r.due)
 
 task_bytes_lem : (level : ℕ) (s : List ℕ) → TaskFrame form1 s
     → list_of (byte_at s) 14 ≡ task_bytes form1 (task_of level (fields_part s))
-unfolding list_from task_bytes form1 task_of
+unfolding list_from task_bytes task_of
 task_bytes_lem level s r =
     rw (
       word_back (fields_part s) 1 (word 1 (omega arith)),

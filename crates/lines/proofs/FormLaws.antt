@@ -1,6 +1,6 @@
 -- Where the lines of a plan start, by its form.
 -- Assumes nothing.
-use Rattle.std.proofs.Common.{ℕ, ◌+◌, ◌*◌, ◌≤◌, arith, mul-add, mul-le-mul, ◌≡◌, refl}
+use Rattle.std.proofs.Common.{ℕ, ◌+◌, ◌*◌, arith, mul-add, ◌≡◌, refl}
 use Rattle.lines.specs.declared.Form.{Form}
 use Rattle.lines.specs.Form.{form1, line_length, line_start, FormSized}
 
@@ -15,13 +15,6 @@ start_first f = omega arith
 pub start_next : (f : Form) (i : ℕ) → line_start f (i + 1) ≡ line_start f i + line_length f.task.size
 unfolding line_start
 start_next f i = omega (arith, mul-add (line_length f.task.size) i 1)
-
--- no line starts far off
-pub start_small : (f : Form) (i : ℕ) → FormSized f → i ≤ 32 → line_start f i ≤ 1067
-unfolding line_start
-start_small f i z l =
-    let a : line_length f.task.size ≤ 33 = omega (arith, z.high) in
-    omega (arith, mul-le-mul a l, z.head)
 
 -- document 01's lines
 pub start_in_bytes : (i : ℕ) → line_start form1 i ≡ 11 + 31 * i

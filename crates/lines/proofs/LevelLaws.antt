@@ -1,20 +1,19 @@
--- Whether the levels of a table are its places: the loop that looks for the first task where they are not,
--- turn by turn, and what its answer says. Assumes nothing.
-use Rattle.std.proofs.Common.{ℕ, ◌+◌, ◌≤◌, ◌<◌, arith, ◌≡◌, refl, ap, ◌∙◌, Bool, true, false, not, eqb}
-use Rattle.std.proofs.Common.{eq-eqb, ne_eqb, eqb-true}
-use Rattle.base.specs.Choice.{pick}
-use Rattle.base.proofs.FirstLaws.{NoneTo, first_none, none_first, find_start, find_step, find_here}
-use Rattle.base.proofs.FirstLaws.{find_none}
+-- Whether the levels of a table are its places: what the loop that looks for the first task where they are
+-- not finds, and what its answer says. Assumes nothing.
+use Rattle.std.proofs.Common.{ℕ, zero, suc, ◌+◌, ◌≤◌, ◌<◌, arith, ◌≡◌, refl, ap, Bool, true, false, not, eqb}
+use Rattle.std.proofs.Common.{eq-eqb, ne_eqb, eqb-true, Some, None}
+use Rattle.base.specs.Choice.{pick, some_of}
+use Rattle.base.proofs.FirstLaws.{NoneTo, first_none, none_first, find_here, find_none}
 use Rattle.table.specs.declared.Table.{Table}
 use Rattle.table.specs.Table.{level_at}
 use Rattle.lines.specs.Writes.{PlaceLevels, unplaced}
 
 module _ (t : Table) where
   -- the task at a place has another level
-  abbrev other_at : ℕ → Bool
+  abbrev pub other_at : ℕ → Bool
   other_at i = not (eqb (level_at t i) (i + 1))
 
-  same_at : (i : ℕ) → level_at t i ≡ i + 1 → other_at i ≡ false
+  pub same_at : (i : ℕ) → level_at t i ≡ i + 1 → other_at i ≡ false
   same_at i e = ap (λ b. not b) (eq-eqb (level_at t i) (i + 1) e)
 
   other_at_lem : (i : ℕ) → (level_at t i ≡ i + 1 → ⊥) → other_at i ≡ true
@@ -35,33 +34,17 @@ module _ (t : Table) where
   unfolding unplaced
   placed_all e i l = at_same i (none_first other_at e i l)
 
--- What the loop knows at task i: the levels before it are the places.
-pub record Placing (t : Table) (i place : ℕ) : Type 0 where
-  pub range : t.n ≤ 32
-  pub low : i ≤ t.n
-  pub here : place ≡ i
-  pub before : NoneTo (other_at t) i
+  -- what the loop finds: a task with another level, where those before it have their places; or none
+  pub other_here : {i : ℕ} → NoneTo other_at i → i < t.n → (level_at t i ≡ i + 1 → ⊥)
+      → Some (i + 1) ≡ some_of (unplaced t)
+  unfolding unplaced
+  other_here {i} before lt other =
+      some_here (unplaced t) (find_here other_at before lt (other_at_lem i other))
+    where
+      some_here : (x : ℕ) → i + 1 ≡ x → Some (i + 1) ≡ some_of x
+      some_here zero e = absurd (let z : ⊥ = omega arith in z)
+      some_here (suc x) e = ap Some e
 
-module _ (t : Table) where
-  pub placing_start : t.n ≤ 32 → Placing t 0 0
-  placing_start range =
-      record { range = range; low = omega arith; here = refl; before = find_start (other_at t) }
-
-  module _ {i place : ℕ} (a : Placing t i place) where
-    pub placing_step : i < t.n → level_at t i ≡ place + 1 → Placing t (i + 1) (place + 1)
-    placing_step lt e = record {
-      range = a.range;
-      low = omega arith;
-      here = omega (arith, a.here);
-      before = find_step (other_at t) a.before (same_at t i (omega (arith, a.here)));
-    }
-
-    pub placing_other : i < t.n → (level_at t i ≡ place + 1 → ⊥) → place + 1 ≡ unplaced t
-    unfolding unplaced
-    placing_other lt other =
-        ap (λ x. x + 1) a.here
-        ∙ find_here (other_at t) a.before lt (other_at_lem t i (λ z. other (omega (arith, a.here))))
-
-    pub placing_end : t.n ≤ i → 0 ≡ unplaced t
-    unfolding unplaced
-    placing_end done = find_none (other_at t) a.before done
+  pub none_other : {i : ℕ} → NoneTo other_at i → t.n ≤ i → None ≡ some_of (unplaced t)
+  unfolding unplaced
+  none_other before done = ap some_of (find_none other_at before done)

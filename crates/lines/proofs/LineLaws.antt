@@ -2,8 +2,8 @@
 -- of a right line after its kind byte.
 -- Assumes nothing.
 use Rattle.std.proofs.Common.{ℕ, zero, suc, ◌+◌, ◌*◌, ◌-◌, ◌≤◌, ◌<◌, arith, ◌≡◌, refl, sym, ap, ◌∙◌, List}
-use Rattle.std.proofs.Common.{length, take, drop, length-drop, take_all}
-use Rattle.base.specs.Choice.{or_else}
+use Rattle.std.proofs.Common.{length, take, drop, length-drop, take_all, Some, None, Ok, Err, Result}
+use Rattle.base.specs.Choice.{or_else, some_of}
 use Rattle.table.specs.declared.Task.{Task}
 use Rattle.table.specs.Checks.{head_fault_of, task_fault}
 use Rattle.frames.specs.Digits.{Digits}
@@ -12,11 +12,9 @@ use Rattle.frames.proofs.DigitLaws.{part_digits}
 use Rattle.frames.proofs.FrameLaws.{frame_right}
 use Rattle.lines.specs.declared.Form.{Form}
 use Rattle.lines.specs.declared.Head.{Head}
-use Rattle.lines.specs.declared.HeadLine.TheVariants.{Fit, Unfit}
-use Rattle.lines.specs.declared.TaskLine.TheVariants.{Right, Wrong}
 use Rattle.lines.specs.Fields.{task_of, fields_part, head_frame_fault, task_frame_fault, head_line_fault}
 use Rattle.lines.specs.Fields.{task_line_fault, text_head, numbers_of, empty_table}
-use Rattle.lines.specs.Reads.{head_answer, head_read, task_answer}
+use Rattle.lines.specs.Reads.{head_read, task_read}
 use Rattle.lines.specs.Wrong.{HeadFrame, TaskFrame}
 
 -- the part of a list from place a to its end
@@ -31,6 +29,14 @@ fault_here (suc a) b some = refl
 fault_after : (a b : ℕ) → a ≡ 0 → or_else a b suc ≡ b
 fault_after zero b e = refl
 fault_after (suc a) b e = absurd (let z : ⊥ = omega arith in z)
+
+first_some : (a b x : ℕ) → Some x ≡ some_of a → Some x ≡ some_of (or_else a b suc)
+first_some zero b x e = cc
+first_some (suc a) b x e = e
+
+then_some : (a b : ℕ) → None ≡ some_of a → some_of b ≡ some_of (or_else a b suc)
+then_some zero b e = refl
+then_some (suc a) b e = cc
 
 fault_none : (a b : ℕ) → or_else a b suc ≡ 0 → (a ≡ 0) × (b ≡ 0)
 fault_none zero b e = (refl, e)
@@ -79,65 +85,71 @@ module _ (s : List ℕ) (size kind : ℕ) (e : frame_fault s size kind ≡ 0) wh
   part_right n l = part_digits s 2 n (λ i m. (frame_right s size kind e).text.each i (omega arith))
 
 -- what a line answers by its first fault: what it holds, or the fault
-module _ {A : Type 0} (holds : A) (fault : ℕ → A) where
-  pub answer_wrong : (x number : ℕ) → x ≡ number → (x ≡ 0 → ⊥)
-      → fault number ≡ or_else x holds (λ f. fault (suc f))
-  answer_wrong zero number e some = absurd (some refl)
-  answer_wrong (suc x) number e some = ap fault (sym e)
+module _ {A : Type 0} (holds : A) where
+  abbrev answer : ℕ → Result A ℕ
+  answer x = or_else x (Ok holds) (λ f. Err (suc f))
 
-  answer_right : (x : ℕ) → x ≡ 0 → holds ≡ or_else x holds (λ f. fault (suc f))
+  answer_wrong : (x number : ℕ) → Some number ≡ some_of x → Err number ≡ answer x
+  answer_wrong zero number e = cc
+  answer_wrong (suc x) number e = cc
+
+  answer_right : (x : ℕ) → None ≡ some_of x → Ok holds ≡ answer x
   answer_right zero e = refl
-  answer_right (suc x) e = absurd (let z : ⊥ = omega arith in z)
+  answer_right (suc x) e = cc
 
-module _ (h : Head) where
-  pub unfit_answer : (x number : ℕ) → head_answer h x ≡ Unfit number → (x ≡ number) × (number ≡ 0 → ⊥)
-  unfit_answer zero number e = absurd (let z : ◌≡◌ {A = ℕ} 0 1 = cc in omega arith)
-  unfit_answer (suc x) number e = let same : suc x ≡ number = cc in (same, λ z. omega arith)
-
-  pub fit_answer : (x : ℕ) (r : Head) → head_answer h x ≡ Fit r → (x ≡ 0) × (r ≡ h)
-  fit_answer zero r e = (refl, cc)
-  fit_answer (suc x) r e = absurd (let z : ◌≡◌ {A = ℕ} 0 1 = cc in omega arith)
-
-module _ (t : Task) where
-  pub wrong_answer : (x number : ℕ) → task_answer t x ≡ Wrong number → (x ≡ number) × (number ≡ 0 → ⊥)
-  wrong_answer zero number e = absurd (let z : ◌≡◌ {A = ℕ} 0 1 = cc in omega arith)
+  pub wrong_answer : (x number : ℕ) → answer x ≡ Err number → (x ≡ number) × (number ≡ 0 → ⊥)
+  wrong_answer zero number e = cc
   wrong_answer (suc x) number e = let same : suc x ≡ number = cc in (same, λ z. omega arith)
 
-  pub right_answer : (x : ℕ) (r : Task) → task_answer t x ≡ Right r → (x ≡ 0) × (r ≡ t)
+  pub right_answer : (x : ℕ) (r : A) → answer x ≡ Ok r → (x ≡ 0) × (r ≡ holds)
   right_answer zero r e = (refl, cc)
-  right_answer (suc x) r e = absurd (let z : ◌≡◌ {A = ℕ} 0 1 = cc in omega arith)
+  right_answer (suc x) r e = cc
 
--- a head line whose frame is right answers its numbers, or the fault of its fields
-module _ (f : Form) (s : List ℕ) (h : Head) (right : head_frame_fault f s ≡ 0)
-    (e : h ≡ numbers_of (text_head s))
-  where
-    fields_fault : (x : ℕ) → x ≡ head_fault_of (empty_table h) → head_line_fault f s ≡ x
-    fields_fault x g = head_fields_fault f s x right (g ∙ ap (λ n. head_fault_of (empty_table n)) e)
+-- a head line answers the fault of its frame; where that is right its numbers, or the fault of its fields
+module _ (f : Form) (s : List ℕ) where
+  pub head_frame_wrong : {x : ℕ} → Some x ≡ some_of (head_frame_fault f s) → Err x ≡ head_read f s
+  unfolding head_line_fault
+  head_frame_wrong {x} e =
+      answer_wrong (numbers_of (text_head s)) (head_line_fault f s) x
+      (first_some (head_frame_fault f s) _ x e)
 
-    pub numbers_wrong : (x : ℕ) → x ≡ head_fault_of (empty_table h) → (x ≡ 0 → ⊥) → Unfit x ≡ head_read f s
-    numbers_wrong x g some =
-        let l : head_line_fault f s ≡ x = fields_fault x g in
-        answer_wrong (Fit (numbers_of (text_head s))) Unfit (head_line_fault f s) x l (λ z. some (sym l ∙ z))
+  module _ (h : Head) (right : None ≡ some_of (head_frame_fault f s)) (e : h ≡ numbers_of (text_head s)) where
+    fields_fault : some_of (head_fault_of (empty_table h)) ≡ some_of (head_line_fault f s)
+    unfolding head_line_fault
+    fields_fault =
+        ap (λ n. some_of (head_fault_of (empty_table n))) e ∙ then_some (head_frame_fault f s) _ right
 
-    pub numbers_right : (x : ℕ) → x ≡ head_fault_of (empty_table h) → x ≡ 0 → Fit h ≡ head_read f s
-    numbers_right x g none =
-        ap Fit e
-        ∙ answer_right (Fit (numbers_of (text_head s))) Unfit (head_line_fault f s) (fields_fault x g ∙ none)
+    pub numbers_wrong : {x : ℕ} → Some x ≡ some_of (head_fault_of (empty_table h)) → Err x ≡ head_read f s
+    numbers_wrong {x} g =
+        answer_wrong (numbers_of (text_head s)) (head_line_fault f s) x (g ∙ fields_fault)
 
--- a task line whose frame is right answers its task, or the fault of its fields
-module _ (f : Form) (level : ℕ) (s : List ℕ) (t : Task) (right : task_frame_fault f s ≡ 0)
-    (e : t ≡ task_of level (fields_part s))
-  where
-    pub fields_wrong : (x : ℕ) → x ≡ task_fault t → (x ≡ 0 → ⊥)
-        → Wrong x ≡ task_answer (task_of level (fields_part s)) (task_line_fault f level s)
-    fields_wrong x g some =
-        let l : task_line_fault f level s ≡ x = task_fields_fault f s level x right (g ∙ ap task_fault e) in
-        answer_wrong (Right (task_of level (fields_part s))) Wrong (task_line_fault f level s) x l
-        (λ z. some (sym l ∙ z))
+    pub numbers_right : None ≡ some_of (head_fault_of (empty_table h)) → Ok h ≡ head_read f s
+    numbers_right g =
+        ap Ok e ∙ answer_right (numbers_of (text_head s)) (head_line_fault f s) (g ∙ fields_fault)
 
-    pub fields_right : (x : ℕ) → x ≡ task_fault t → x ≡ 0
-        → Right t ≡ task_answer (task_of level (fields_part s)) (task_line_fault f level s)
-    fields_right x g none =
-        ap Right e
-        ∙ answer_right (Right (task_of level (fields_part s))) Wrong (task_line_fault f level s)
-        (task_fields_fault f s level x right (g ∙ ap task_fault e) ∙ none)
+-- a task line answers the fault of its frame; where that is right its task, or the fault of its fields
+module _ (f : Form) (level : ℕ) (s : List ℕ) where
+  pub task_frame_wrong : {x : ℕ} → Some x ≡ some_of (task_frame_fault f s) → Err x ≡ task_read f level s
+  unfolding task_line_fault
+  task_frame_wrong {x} e =
+      answer_wrong (task_of level (fields_part s)) (task_line_fault f level s) x
+      (first_some (task_frame_fault f s) _ x e)
+
+  module _ (t : Task) (right : None ≡ some_of (task_frame_fault f s))
+      (e : t ≡ task_of level (fields_part s))
+    where
+      task_fields_fault_is : some_of (task_fault t) ≡ some_of (task_line_fault f level s)
+      unfolding task_line_fault
+      task_fields_fault_is =
+          ap (λ u. some_of (task_fault u)) e ∙ then_some (task_frame_fault f s) _ right
+
+      pub fields_wrong : {x : ℕ} → Some x ≡ some_of (task_fault t) → Err x ≡ task_read f level s
+      fields_wrong {x} g =
+          answer_wrong (task_of level (fields_part s)) (task_line_fault f level s) x
+          (g ∙ task_fields_fault_is)
+
+      pub fields_right : None ≡ some_of (task_fault t) → Ok t ≡ task_read f level s
+      fields_right g =
+          ap Ok e
+          ∙ answer_right (task_of level (fields_part s)) (task_line_fault f level s)
+          (g ∙ task_fields_fault_is)

@@ -2,8 +2,8 @@
 -- 12 on top of the front.
 -- Assumes nothing.
 use Rattle.std.proofs.Common.{ℕ, zero, suc, ◌+◌, ◌≤◌, ◌<◌, arith, ◌≡◌, refl, sym, ap, ap₂, subst, ◌∙◌, Bool}
-use Rattle.std.proofs.Common.{true, false, not, List, eqb, length, drop, set, replicate, length-drop}
-use Rattle.std.proofs.Common.{lt-ltb, le-ltb, eq-eqb, ne_eqb}
+use Rattle.std.proofs.Common.{true, false, not, List, eqb, length, set, replicate, length-drop}
+use Rattle.std.proofs.Common.{lt-ltb, le-ltb, eq-eqb, ne_eqb, Ok, Err, Result}
 use Rattle.base.specs.Choice.{or_else}
 use Rattle.base.specs.Rows.{row}
 use Rattle.base.proofs.FirstLaws.{NoneTo, first_is, first_none, find_start, find_step}
@@ -11,27 +11,23 @@ use Rattle.base.proofs.RowLaws.{fill_start, fill_step}
 use Rattle.table.specs.declared.Task.{Task}
 use Rattle.table.specs.declared.Table.{Table}
 use Rattle.table.specs.declared.Refusal.{Refusal}
-use Rattle.table.specs.declared.Checked.{Checked}
-use Rattle.table.specs.declared.Checked.TheVariants.{Fine, Refused}
+use Rattle.table.specs.Checks.{Checked}
 use Rattle.table.specs.Table.{no_task}
 use Rattle.table.specs.Faults.{LegalHead}
 use Rattle.table.proofs.RangeLaws.{head_legal}
 use Rattle.lines.specs.declared.Form.{Form}
 use Rattle.lines.specs.declared.Front.{Front}
 use Rattle.lines.specs.declared.Head.{Head}
-use Rattle.lines.specs.declared.HeadLine.{HeadLine}
-use Rattle.lines.specs.declared.HeadLine.TheVariants.{Fit, Unfit}
-use Rattle.lines.specs.declared.TaskLine.{TaskLine}
-use Rattle.lines.specs.declared.TaskLine.TheVariants.{Right, Wrong}
-use Rattle.lines.specs.Form.{form1, line_length, line_start, FormSized}
+use Rattle.lines.specs.declared.Reading.{Reading}
+use Rattle.lines.specs.Form.{form1, line_start, FormSized}
 use Rattle.lines.specs.Fields.{head_of, numbers_of, empty_table, task_of, fields_part, task_text}
 use Rattle.lines.specs.Fields.{head_line_fault, task_line_fault, text_head, text_task, line_fault}
-use Rattle.lines.specs.Reads.{refused, accepted, stopped, passed, head_read, task_answer, with_tasks}
+use Rattle.lines.specs.Reads.{refused, stopped, passed, head_read, task_answer, with_tasks}
 use Rattle.lines.specs.Reads.{wrong_task, TasksDue, tasks_read, front_by, front_of, whole_answer, whole_of}
 use Rattle.lines.specs.Reads.{read_of}
-use Rattle.lines.proofs.FormLaws.{start_first, start_next, start_small}
+use Rattle.lines.proofs.FormLaws.{start_first, start_next}
 use Rattle.lines.proofs.LineLaws.{head_line_frame, head_line_right, task_line_frame}
-use Rattle.lines.proofs.LineLaws.{unfit_answer, fit_answer, wrong_answer, right_answer}
+use Rattle.lines.proofs.LineLaws.{wrong_answer, right_answer}
 
 module _ (f : Form) (s : List ℕ) where
   -- the line of task i has a fault
@@ -79,104 +75,86 @@ module _ (f : Form) (s : List ℕ) where
 abbrev pub places : Table → List Task → Table
 places t ts = record { cores = t.cores; policy = t.policy; n = t.n; tasks = ts }
 
--- What is known before the line of task i, which starts at `at`: the lines passed are right, and stored.
-pub record Progress (f : Form) (s : List ℕ) (h : Table) (tasks : List Task) (i at place : ℕ) : Type 0 where
+-- What is known before the line of task i: the lines passed are right, and stored.
+pub record Progress (f : Form) (s : List ℕ) (h : Table) (tasks : List Task) (i : ℕ) : Type 0 where
+  pub sized : FormSized f
   pub range : h.n ≤ 32
-  pub low : i ≤ h.n
-  pub here : at ≡ line_start f i
-  pub line : place ≡ i + 2
-  pub inside : at ≤ length s
+  pub inside : line_start f i ≤ length s
   pub before : NoneTo (wrong_line f s) i
   pub stored : tasks ≡ row no_task (text_task f s) i
 
 module _ (f : Form) (s : List ℕ) (h : Table) where
-  pub progress_start : TasksDue f s h
-      → Progress f s h (replicate 32 no_task) 0 (line_length f.head.size) 2
+  pub progress_start : TasksDue f s h → Progress f s h (replicate 32 no_task) 0
   progress_start due = record {
+    sized = due.sized;
     range = due.range;
-    low = omega arith;
-    here = sym (start_first f);
-    line = refl;
-    inside = omega (arith, due.long, start_first f);
+    inside = due.long;
     before = find_start (wrong_line f s);
     stored = fill_start no_task (text_task f s);
   }
 
-  module _ (tasks : List Task) (i at place : ℕ) (p : Progress f s h tasks i at place) where
-    -- no line starts far off
-    pub progress_small : FormSized f → at ≤ 1067
-    progress_small z = omega (arith, p.here, start_small f i z (omega (arith, p.low, p.range)))
-
+  module _ (tasks : List Task) (i : ℕ) (p : Progress f s h tasks i) where
     -- a right line has all its bytes
-    progress_inside : line_fault f s i ≡ 0 → at + line_length f.task.size ≤ length s
+    progress_inside : line_fault f s i ≡ 0 → line_start f (i + 1) ≤ length s
     progress_inside right =
         omega (
           arith,
           (task_line_frame f (task_text f s i) (i + 1) right).text.long,
           length-drop (line_start f i) s,
-          p.here,
+          start_next f i,
+          p.inside,
         )
 
-    progress_step : i < h.n → line_fault f s i ≡ 0
-        → Progress f s h (set tasks i (text_task f s i)) (i + 1) (at + line_length f.task.size) (place + 1)
+    progress_step : i < h.n → line_fault f s i ≡ 0 → Progress f s h (set tasks i (text_task f s i)) (i + 1)
     progress_step l right = record {
+      sized = p.sized;
       range = p.range;
-      low = omega arith;
-      here = omega (arith, p.here, start_next f i);
-      line = omega (arith, p.line);
       inside = progress_inside right;
       before = find_step (wrong_line f s) p.before (line_right f s i right);
       stored = fill_step no_task (text_task f s) (omega (arith, p.range)) p.stored refl;
     }
 
-    pub progress_end : h.n ≤ i → passed (places h tasks) at ≡ tasks_read f s h
+    pub progress_end : i ≡ h.n → passed (places h tasks) (line_start f h.n) ≡ tasks_read f s h
     unfolding with_tasks
-    progress_end done =
-        let e : i ≡ h.n = omega (arith, p.low) in
-        ap₂ passed (ap (places h) p.stored ∙ ap (with_tasks f h s) e) (p.here ∙ ap (line_start f) e)
+    progress_end e =
+        ap (λ ts. passed (places h ts) (line_start f h.n)) (p.stored ∙ ap (row no_task (text_task f s)) e)
         ∙ sym (tasks_passed f s h (λ j m. p.before j (omega arith)))
 
     -- by the answer of the line at hand
-    module _ (x : List ℕ) (r : TaskLine) (same : x ≡ drop at s)
+    module _ (x : List ℕ) (r : Result Task ℕ) (same : x ≡ task_text f s i)
         (level : ℕ) (due : level ≡ i + 1)
         (e : r ≡ task_answer (task_of level (fields_part x)) (task_line_fault f level x)) (l : i < h.n) where
-      here_is : x ≡ task_text f s i
-      here_is = same ∙ ap (λ k. drop k s) p.here
-
       fault_is : task_line_fault f level x ≡ line_fault f s i
-      fault_is = ap₂ (task_line_fault f) due here_is
+      fault_is = ap₂ (task_line_fault f) due same
 
-      pub progress_wrong : (y : ℕ) → r ≡ Wrong y → stopped y place ≡ tasks_read f s h
+      pub progress_wrong : (y : ℕ) → r ≡ Err y → stopped y (i + 2) ≡ tasks_read f s h
       progress_wrong y w =
           let a : (task_line_fault f level x ≡ y) × (y ≡ 0 → ⊥) =
           wrong_answer (task_of level (fields_part x)) _ y (sym e ∙ w)
           in
-          ap (stopped y) p.line
-          ∙ sym (task_stopped f s h i y p.before l (sym fault_is ∙ a.0) a.1)
+          sym (task_stopped f s h i y p.before l (sym fault_is ∙ a.0) a.1)
 
-      pub progress_right : (t : Task) → r ≡ Right t
-          → Progress f s h (set tasks i t) (i + 1) (at + line_length f.task.size) (place + 1)
+      pub progress_right : (t : Task) → r ≡ Ok t → Progress f s h (set tasks i t) (i + 1)
       progress_right t w =
           let a : (task_line_fault f level x ≡ 0) × (t ≡ task_of level (fields_part x)) =
           right_answer _ _ t (sym e ∙ w)
           in
-          subst
-          (λ (u : Task). Progress f s h (set tasks i u) (i + 1) (at + line_length f.task.size) (place + 1))
-          (sym (a.1 ∙ ap₂ (λ k y. task_of k (fields_part y)) due here_is))
+          subst (λ (u : Task). Progress f s h (set tasks i u) (i + 1))
+          (sym (a.1 ∙ ap₂ (λ k y. task_of k (fields_part y)) due same))
           (progress_step l (sym fault_is ∙ a.0))
 
 -- By the answer of the head line.
-module _ (f : Form) (s : List ℕ) (r : HeadLine) (e : r ≡ head_read f s) where
-  pub head_unfit : (x : ℕ) → r ≡ Unfit x → stopped x 1 ≡ front_by f s
+module _ (f : Form) (s : List ℕ) (r : Result Head ℕ) (e : r ≡ head_read f s) where
+  pub head_unfit : (x : ℕ) → r ≡ Err x → stopped x 1 ≡ front_by f s
   head_unfit x w =
       let a : (head_line_fault f s ≡ x) × (x ≡ 0 → ⊥) =
-      unfit_answer (numbers_of (text_head s)) _ x (sym e ∙ w)
+      wrong_answer (numbers_of (text_head s)) _ x (sym e ∙ w)
       in
       sym (head_stopped f s x a.0 a.1)
 
-  module _ (h : Head) (w : r ≡ Fit h) where
+  module _ (h : Head) (w : r ≡ Ok h) where
     fit : (head_line_fault f s ≡ 0) × (h ≡ numbers_of (text_head s))
-    fit = fit_answer (numbers_of (text_head s)) _ h (sym e ∙ w)
+    fit = right_answer (numbers_of (text_head s)) _ h (sym e ∙ w)
 
     empty_is : empty_table h ≡ text_head s
     unfolding head_of
@@ -192,6 +170,9 @@ module _ (f : Form) (s : List ℕ) (r : HeadLine) (e : r ≡ head_read f s) wher
       range = rw fit.1 (head_legal {h = text_head s} (head_line_right f s fit.0)).count.1;
       empty = refl;
     }
+
+    pub head_cores : (1 ≤ h.cores) × (h.cores ≤ 16)
+    head_cores = rw fit.1 (head_legal {h = text_head s} (head_line_right f s fit.0)).cores
 
 -- What holds of a refused front and of a front with a legal head holds of every front.
 pub front_all : (f : Form) (s : List ℕ) (P : Front → Type 0) → ((x p : ℕ) → P (stopped x p))
@@ -229,12 +210,15 @@ module _ (s : List ℕ) (r : Front) (e : r ≡ front_of s) where
   pub plan_count : r.table.n ≤ 32
   plan_count = rw e (front_count form1 s)
 
-  pub plan_stopped : (x : Refusal) → r.answer ≡ Refused x
-      → record { answer = Refused x; table = r.table } ≡ read_of s
-  plan_stopped x is = by_answer is
+  -- the answer and the table that the front has
+  abbrev pub as_read : Checked → Reading
+  as_read a = record { answer = a; table = r.table }
 
-  pub plan_more : r.answer ≡ Fine → r.end < length s → refused 12 (r.table.n + 2) ≡ read_of s
+  pub plan_stopped : (x : Refusal) → r.answer ≡ Err x → as_read r.answer ≡ read_of s
+  plan_stopped x is = ap as_read is ∙ by_answer is
+
+  pub plan_more : r.answer ≡ Ok tt → r.end < length s → refused 12 (r.table.n + 2) ≡ read_of s
   plan_more is l = sym (rw (lt-ltb r.end (length s) l)) ∙ by_answer is
 
-  pub plan_read : r.answer ≡ Fine → length s ≤ r.end → accepted r.table ≡ read_of s
-  plan_read is l = sym (rw (le-ltb r.end (length s) l)) ∙ by_answer is
+  pub plan_read : r.answer ≡ Ok tt → length s ≤ r.end → as_read r.answer ≡ read_of s
+  plan_read is l = ap as_read is ∙ sym (rw (le-ltb r.end (length s) l)) ∙ by_answer is

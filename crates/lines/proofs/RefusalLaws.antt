@@ -2,11 +2,10 @@
 -- `front_stopped` goes by the way to the fault, `front_cases` finds that way for every text.
 -- Assumes nothing.
 use Rattle.std.proofs.Common.{ℕ, zero, suc, ◌+◌, ◌≤◌, ◌<◌, arith, ◌≡◌, refl, sym, ap, subst, ◌∙◌, ◌⊎◌, inl}
-use Rattle.std.proofs.Common.{inr, ⊎_elim, List, length}
+use Rattle.std.proofs.Common.{inr, ⊎_elim, List, length, Ok}
 use Rattle.base.proofs.OrderLaws.{le_or_lt, below_none, below_next}
 use Rattle.base.proofs.FirstLaws.{NoneTo}
 use Rattle.table.specs.declared.Table.{Table}
-use Rattle.table.specs.declared.Checked.TheVariants.{Fine}
 use Rattle.table.specs.Checks.{refusal, faulty}
 use Rattle.table.specs.Faults.{TaskWrong}
 use Rattle.table.proofs.RangeLaws.{wrong_head, right_head, head_some, head_cases, wrong_task_lem, right_task}
@@ -165,7 +164,7 @@ whole_cases s =
 
 pub not_refused : {t : Table} {x p : ℕ} → accepted t ≡ refused x p → ⊥
 not_refused {t} {x} {p} e =
-    let a : Fine ≡ faulty x p = ap (λ (r : Reading). r.answer) e in
+    let a : Ok tt ≡ faulty x p = ap (λ (r : Reading). r.answer) e in
     let z : ◌≡◌ {A = ℕ} 0 1 = cc in
     omega arith
 

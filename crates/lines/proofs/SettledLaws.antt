@@ -4,15 +4,14 @@
 -- Assumes nothing.
 use Rattle.std.proofs.Common.{ℕ, zero, suc, ◌+◌, ◌≤◌, ◌<◌, arith, ◌≡◌, refl, sym, ap, ◌∙◌, not, ⊎_elim}
 use Rattle.std.proofs.Common.{List, length, drop, leb, ltb, eqb, le-leb, lt-ltb, le-ltb, leb-true}
-use Rattle.std.proofs.Common.{leb-false}
+use Rattle.std.proofs.Common.{leb-false, Ok, Err}
 use borrow.Author.Tests.{lt-leb}
 use Rattle.base.specs.Choice.{pick, or_else}
 use Rattle.base.proofs.OrderLaws.{le_or_lt}
 use Rattle.base.proofs.FirstLaws.{first_same, is_first}
 use Rattle.base.proofs.RowLaws.{row_same}
 use Rattle.table.specs.declared.Table.{Table}
-use Rattle.table.specs.declared.Checked.{Checked}
-use Rattle.table.specs.declared.Checked.TheVariants.{Fine, Refused}
+use Rattle.table.specs.Checks.{Checked}
 use Rattle.table.specs.Table.{no_task}
 use Rattle.table.proofs.RangeLaws.{head_legal}
 use Rattle.frames.proofs.AlikeLaws.{ReadAlike, drop_alike, byte_alike, word_alike, frame_alike}
@@ -135,5 +134,5 @@ module _ {a b : List ℕ} (s : ReadAlike 1004 a b) where
     where
       go : (c : Checked) (t : Table) (end : ℕ) → end ≤ 1003
           → whole_answer (length a) c t end ≡ whole_answer (length b) c t end
-      go Fine t end h = ap (λ x. pick x (refused 12 (t.n + 2)) (accepted t)) (more_alike end h)
-      go (Refused r) t end h = refl
+      go (Ok _) t end h = ap (λ x. pick x (refused 12 (t.n + 2)) (accepted t)) (more_alike end h)
+      go (Err r) t end h = refl

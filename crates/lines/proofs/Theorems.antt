@@ -19,17 +19,15 @@
 -- Assumes nothing.
 use Rattle.std.proofs.Common.{ℕ, ◌+◌, ◌*◌, ◌≤◌, arith, ◌≡◌, refl, sym, ap, subst, ◌∙◌, ◌↔◌, ◌⊎◌, inl, inr}
 use Rattle.std.proofs.Common.{⊎_elim, List, [], ◌++◌, append-nil, length, take, drop, take-append-drop}
-use Rattle.std.proofs.Common.{take_all}
+use Rattle.std.proofs.Common.{take_all, Ok, Err}
 use Rattle.std.proofs.Math.ListN.{get_or-eq_default}
 use Rattle.base.specs.Rows.{row}
 use Rattle.base.proofs.RowLaws.{row_at, row_length}
 use Rattle.table.specs.declared.Task.{Task}
 use Rattle.table.specs.declared.Table.{Table}
 use Rattle.table.specs.declared.Refusal.{Refusal}
-use Rattle.table.specs.declared.Checked.{Checked}
-use Rattle.table.specs.declared.Checked.TheVariants.{Fine, Refused}
+use Rattle.table.specs.Checks.{Checked, faulty}
 use Rattle.table.specs.Table.{no_task, LegalTask, LegalTable}
-use Rattle.table.specs.Checks.{faulty}
 use Rattle.table.specs.Faults.{Within, HeadWrong, cores, policy, count, TaskWrong, flag, period}
 use Rattle.table.specs.Faults.{deadline, cost, level}
 use Rattle.frames.specs.Digits.{raised}
@@ -50,7 +48,7 @@ use Rattle.lines.proofs.RefusalLaws as refusals
 use Rattle.lines.proofs.SettledLaws as settled
 use Rattle.lines.proofs.ExactLaws as exact
 
-not_fine : {x p : ℕ} → faulty x p ≡ Fine → ⊥
+not_fine : {x p : ℕ} → faulty x p ≡ Ok tt → ⊥
 not_fine e = let z : ◌≡◌ {A = ℕ} 0 1 = cc in omega arith
 
 -- A text is accepted exactly if, raised, it is the text of a legal table.
@@ -181,13 +179,13 @@ refused_zeros s x p e =
 
 -- And what is fine is a legal table; a refusal's number and place are small.
 
-pub read_legal : (s : List ℕ) → (read_of s).answer ≡ Fine → LegalTable (read_of s).table
+pub read_legal : (s : List ℕ) → (read_of s).answer ≡ Ok tt → LegalTable (read_of s).table
 read_legal s e = ((reading_exact s (read_of s).table).0 (ap whole e)).legal
   where
     whole : Checked → Reading
     whole a = record { answer = a; table = (read_of s).table }
 
-pub refused_small : (s : List ℕ) {why : Refusal} → (read_of s).answer ≡ Refused why
+pub refused_small : (s : List ℕ) {why : Refusal} → (read_of s).answer ≡ Err why
     → (why.number ≤ 12) × (why.place ≤ 34)
 refused_small s {why} e =
     let w : TextWrong s why.number why.place = (refused_zeros s why.number why.place e).1 in

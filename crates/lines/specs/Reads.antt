@@ -12,24 +12,18 @@
 --
 -- The front of a text is a plan's head line and task lines, with the place where they end: what follows is
 -- not looked at. Assumes nothing.
-use Rattle.std.specs.Prelude.{ℕ, suc, ◌+◌, ◌≤◌, ◌≡◌, not, List, ltb, eqb, length, replicate}
+use Rattle.std.specs.Prelude.{ℕ, suc, ◌+◌, ◌≤◌, ◌≡◌, not, List, ltb, eqb, length, replicate, Ok, Err, Result}
 use Rattle.base.specs.Choice.{pick, or_else}
 use Rattle.base.specs.Least.{first_of}
 use Rattle.base.specs.Rows.{row}
 use Rattle.table.specs.declared.Task.{Task}
 use Rattle.table.specs.declared.Table.{Table}
-use Rattle.table.specs.declared.Checked.{Checked}
-use Rattle.table.specs.declared.Checked.TheVariants.{Fine, Refused}
+use Rattle.table.specs.Checks.{Checked, faulty}
 use Rattle.table.specs.Table.{no_task}
-use Rattle.table.specs.Checks.{faulty}
 use Rattle.lines.specs.declared.Form.{Form}
 use Rattle.lines.specs.declared.Front.{Front}
 use Rattle.lines.specs.declared.Head.{Head}
-use Rattle.lines.specs.declared.HeadLine.{HeadLine}
-use Rattle.lines.specs.declared.HeadLine.TheVariants.{Fit, Unfit}
 use Rattle.lines.specs.declared.Reading.{Reading}
-use Rattle.lines.specs.declared.TaskLine.{TaskLine}
-use Rattle.lines.specs.declared.TaskLine.TheVariants.{Right, Wrong}
 use Rattle.lines.specs.Form.{form1, line_start, FormSized}
 use Rattle.lines.specs.Fields.{fields_part, task_of, text_head, text_task, head_line_fault, task_line_fault}
 use Rattle.lines.specs.Fields.{numbers_of, line_fault}
@@ -41,35 +35,35 @@ abbrev pub refused : ℕ → ℕ → Reading
 refused number place = record { answer = faulty number place; table = no_table }
 
 abbrev pub accepted : Table → Reading
-accepted t = record { answer = Fine; table = t }
+accepted t = record { answer = Ok tt; table = t }
 
 -- the same of a front: with its end, 0 where it is refused
 abbrev pub stopped : ℕ → ℕ → Front
 stopped number place = record { answer = faulty number place; table = no_table; end = 0 }
 
 abbrev pub passed : Table → ℕ → Front
-passed t end = record { answer = Fine; table = t; end = end }
+passed t end = record { answer = Ok tt; table = t; end = end }
 
 abbrev pub number_of : Checked → ℕ
-number_of Fine = 0
-number_of (Refused r) = r.number
+number_of (Ok _) = 0
+number_of (Err r) = r.number
 
 abbrev pub place_of : Checked → ℕ
-place_of Fine = 0
-place_of (Refused r) = r.place
+place_of (Ok _) = 0
+place_of (Err r) = r.place
 
 -- by a head line's first fault: its numbers, or the fault's number
-abbrev pub head_answer : Head → ℕ → HeadLine
-head_answer h fault = or_else fault (Fit h) (λ f. Unfit (suc f))
+abbrev pub head_answer : Head → ℕ → Result Head ℕ
+head_answer h fault = or_else fault (Ok h) (λ f. Err (suc f))
 
-abbrev pub head_read : Form → List ℕ → HeadLine
+abbrev pub head_read : Form → List ℕ → Result Head ℕ
 head_read f s = head_answer (numbers_of (text_head s)) (head_line_fault f s)
 
 -- by a task line's first fault: the task, or the fault's number
-abbrev pub task_answer : Task → ℕ → TaskLine
-task_answer t fault = or_else fault (Right t) (λ f. Wrong (suc f))
+abbrev pub task_answer : Task → ℕ → Result Task ℕ
+task_answer t fault = or_else fault (Ok t) (λ f. Err (suc f))
 
-abbrev pub task_read : Form → ℕ → List ℕ → TaskLine
+abbrev pub task_read : Form → ℕ → List ℕ → Result Task ℕ
 task_read f level s = task_answer (task_of level (fields_part s)) (task_line_fault f level s)
 
 -- a table with the tasks of the first k task lines
@@ -104,8 +98,8 @@ front_of s = front_by form1 s
 
 -- a front's answer, or 12 where it does not end with its text, of n bytes
 abbrev pub whole_answer : ℕ → Checked → Table → ℕ → Reading
-whole_answer n Fine t end = pick (ltb end n) (refused 12 (t.n + 2)) (accepted t)
-whole_answer n (Refused r) t end = record { answer = Refused r; table = t }
+whole_answer n (Ok _) t end = pick (ltb end n) (refused 12 (t.n + 2)) (accepted t)
+whole_answer n (Err r) t end = record { answer = Err r; table = t }
 
 abbrev pub whole_of : ℕ → Front → Reading
 whole_of n r = whole_answer n r.answer r.table r.end

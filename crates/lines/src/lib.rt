@@ -3,7 +3,7 @@
 // `writer`.
 #![tactic(auto)]
 
-use table::{Checked, NO_TASK, Table, Task};
+use table::{NO_TASK, Refusal, Table};
 
 // The kind of a frame, and its bytes with kind and check.
 #[derive(Clone, Copy)]
@@ -29,33 +29,27 @@ pub struct Head {
 
 // The front of a text: fine with the table of its head and task lines and the place where they end, or the
 // first fault with its place, a table of zeros and the end 0.
+// A record, not a Result with the table in it: the theorems say of a refused text's table that it is zeros.
 #[derive(Clone, Copy)]
 pub struct Front {
-    pub answer: Checked,
+    pub answer: Result<(), Refusal>,
     pub table: Table,
     pub end: usize,
 }
 
 // Fine with the table that was read, or the first fault with its place and a table of zeros.
+// A record, not a Result with the table in it: the theorems say of a refused text's table that it is zeros.
 #[derive(Clone, Copy)]
 pub struct Reading {
-    pub answer: Checked,
+    pub answer: Result<(), Refusal>,
     pub table: Table,
 }
 
-// What a head line holds: its numbers, or the number of its first fault.
-#[derive(Clone, Copy)]
-pub enum HeadLine {
-    Fit(Head),
-    Unfit(u32),
-}
-
-// What a task line holds: its task, or the number of its first fault.
-#[derive(Clone, Copy)]
-pub enum TaskLine {
-    Right(Task),
-    Wrong(u32),
-}
+// Document 01's form.
+pub const FORM1: Form = Form {
+    head: Frame { kind: 1, size: 5 },
+    task: Frame { kind: 2, size: 15 },
+};
 
 pub const NO_TABLE: Table = Table {
     cores: 0,

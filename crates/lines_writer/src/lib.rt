@@ -3,6 +3,7 @@
 #![tactic(auto)]
 
 ghost use Rattle.std.specs.Prelude.{◌≡◌, ◌+◌, ◌≤◌, length, take};
+ghost use Rattle.base.specs.Choice.{some_of};
 ghost use Rattle.table.specs.Table.{LegalTask, LegalTable};
 ghost use Rattle.buffer.specs.Put.{Put};
 ghost use Rattle.lines.specs.Form.{form1};
@@ -15,47 +16,33 @@ fn task_frame(t: Task) -> [u8; 16]
     requires { LegalTask t }
     ensures { take 14 result ≡ task_bytes form1 t }
 {
-    let flag = t.flag as u8;
-    let p = t.period;
-    let c = t.cost;
-    let d = t.deadline;
-    [
-        2,
+    let Task {
         flag,
-        (p / 16777216) as u8,
-        (p / 65536 % 256) as u8,
-        (p / 256 % 256) as u8,
-        (p % 256) as u8,
-        (c / 16777216) as u8,
-        (c / 65536 % 256) as u8,
-        (c / 256 % 256) as u8,
-        (c % 256) as u8,
-        (d / 16777216) as u8,
-        (d / 65536 % 256) as u8,
-        (d / 256 % 256) as u8,
-        (d % 256) as u8,
-        0,
-        0,
+        period,
+        cost,
+        deadline,
+        ..
+    } = t;
+    let [p0, p1, p2, p3] = period.to_be_bytes();
+    let [c0, c1, c2, c3] = cost.to_be_bytes();
+    let [d0, d1, d2, d3] = deadline.to_be_bytes();
+    [
+        2, flag as u8, p0, p1, p2, p3, c0, c1, c2, c3, d0, d1, d2, d3, 0, 0,
     ]
 }
 
-// The number of the first task whose level is not its place, and 0 for none.
-pub fn unplaced(t: Table) -> u32
+// The number of the first task whose level is not its place.
+pub fn unplaced(t: Table) -> Option<u32>
     requires { LegalTable t }
-    ensures { result ≡ unplaced t }
+    ensures { result ≡ some_of (unplaced t) }
 {
-    let count = t.n;
-    let mut i: usize = 0;
-    let mut place: u32 = 0;
-    while i < count {
-        let task = t.tasks[i];
-        place += 1;
-        if task.level != place {
-            return place;
+    for i in 0..t.n {
+        let place = i as u32 + 1;
+        if t.tasks[i].level != place {
+            return Some(place);
         }
-        i += 1;
     }
-    0
+    None
 }
 
 // The task lines, from the place `at` on; the answer is the place after them.
@@ -63,13 +50,10 @@ pub fn put_tasks(out: &mut [u8], at: usize, t: Table) -> usize
     requires { LegalTable t × (at + length (tasks_text form1 t.tasks t.n) ≤ length out.old) }
     ensures { Put out.old at (tasks_text form1 t.tasks t.n) result out.new }
 {
-    let n = t.n;
     let mut next = at;
-    let mut i: usize = 0;
-    while i < n {
-        let frame = task_frame(t.tasks[i]);
+    for &task in &t.tasks[..t.n] {
+        let frame = task_frame(task);
         next += frame_writer::put_line(&mut out[next..], frame, 14);
-        i += 1;
     }
     next
 }

@@ -5,7 +5,7 @@ use Rattle.std.proofs.Common.{length-append, lt-ltb, le-ltb}
 use Rattle.table.specs.Table.{LegalTable}
 use Rattle.table.specs.declared.Table.{Table}
 use Rattle.table.specs.declared.Refusal.{Refusal}
-use Rattle.table.specs.declared.Checked.TheVariants.{Fine, Refused as Faulty}
+use Rattle.std.proofs.Common.{Ok, Err}
 use Rattle.lines.specs.Reads.{read_of}
 use Rattle.lines.specs.declared.Reading.{Reading}
 use Rattle.lines.proofs.Theorems.{read_legal, refused_small}
@@ -48,12 +48,12 @@ module _ (t : Table) (rs : List Record) (forced passes : ℕ) where
 
 -- the text of each answer
 module _ (text : List ℕ) where
-  pub listing_refused : {why : Refusal} → (read_of text).answer ≡ Faulty why
+  pub listing_refused : {why : Refusal} → (read_of text).answer ≡ Err why
       → refusal_line why.number why.place 0 ≡ listing_of text
   unfolding listing_of plan_done
   listing_refused e = rw e
 
-  pub listing_legal : (read_of text).answer ≡ Fine
+  pub listing_legal : (read_of text).answer ≡ Ok tt
       → answer_text (read_of text).table (legal_done (read_of text).table Force).recs
       (legal_done (read_of text).table Force).answer
       ≡ listing_of text
@@ -62,12 +62,12 @@ module _ (text : List ℕ) where
 
   -- in the code's words: r is what was read
   module _ {r : Reading} (re : r ≡ read_of text) where
-    pub read_table : r.answer ≡ Fine → LegalTable r.table
+    pub read_table : r.answer ≡ Ok tt → LegalTable r.table
     read_table fine =
         subst (λ (x : Reading). LegalTable x.table) (sym re)
         (read_legal text (ap (λ (x : Reading). x.answer) (sym re) ∙ fine))
 
-    pub refusal_ready : {why : Refusal} {n : ℕ} → r.answer ≡ Faulty why → listing_room ≤ n
+    pub refusal_ready : {why : Refusal} {n : ℕ} → r.answer ≡ Err why → listing_room ≤ n
         → 0 + length (refusal_line why.number why.place 0) ≤ n
     refusal_ready {why} {n} fault enough =
         let small : (why.number ≤ 12) × (why.place ≤ 34) =

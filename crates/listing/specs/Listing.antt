@@ -7,7 +7,7 @@
 --   what a buffer holds then                       ListedAs, of any text; Listed
 --
 -- The lines themselves are in the crates listing_lines and task_lines. Assumes nothing.
-use Rattle.std.specs.Prelude.{ℕ, zero, suc, ◌+◌, ◌≤◌, ◌≡◌, List, [], ◌++◌, length, drop, ltb}
+use Rattle.std.specs.Prelude.{ℕ, zero, suc, ◌+◌, ◌≤◌, ◌≡◌, List, [], ◌++◌, length, drop, ltb, Ok, Err}
 use Rattle.base.specs.Choice.{pick}
 use Rattle.table.specs.Table.{task_at, LegalTable}
 use Rattle.table.specs.declared.Table.{Table}
@@ -16,9 +16,7 @@ use Rattle.planner.specs.declared.Record.{Record}
 use Rattle.planner.specs.declared.Done.{Done}
 use Rattle.planner.specs.declared.Job.TheVariants.{Force}
 use Rattle.planner.specs.declared.Verdict.{Verdict}
-use Rattle.planner.specs.declared.Answer.{Answer}
-use Rattle.planner.specs.declared.Answer.TheVariants.{Given, Refused}
-use Rattle.planner.specs.Answers.{record_at}
+use Rattle.planner.specs.Answers.{Answer, record_at}
 use Rattle.planner.specs.Done.{plan_done}
 use Rattle.task_lines.specs.declared.TaskRow.{TaskRow}
 use Rattle.table.specs.Load.{load_at, total_load}
@@ -52,8 +50,8 @@ accepted_text t rs forced passes =
 
 -- by the answer of forcing
 abbrev pub answer_text : Table → List Record → Answer → List ℕ
-answer_text t rs (Given v) = accepted_text t rs v.forced v.passes
-answer_text t rs (Refused why passes) = refusal_line why.number why.place passes
+answer_text t rs (Ok v) = accepted_text t rs v.forced v.passes
+answer_text t rs (Err s) = refusal_line s.why.number s.why.place s.passes
 
 -- the listing of a plan text; 32 records are room for every table
 unfoldable pub listing_of : List ℕ → List ℕ
@@ -67,7 +65,7 @@ listing_room = 2048
 -- a table and what forcing says of it, with room for its listing in the buffer; what is accepted is legal
 abbrev pub Ready : Table → Done → List ℕ → Type 0
 Ready t d out =
-    ((v : Verdict) → d.answer ≡ Given v → LegalTable t)
+    ((v : Verdict) → d.answer ≡ Ok v → LegalTable t)
     × (length (answer_text t d.recs d.answer) ≤ length out)
 
 -- A buffer with less room stays as it is, and the answer is 0. Else the text w stands at its start, the rest

@@ -7,8 +7,8 @@ ghost use Rattle.buffer.specs.Put.{Put};
 ghost use Rattle.listing.specs.Listing.{lines_to, line_at, accepted_text, answer_text, Ready, Listed};
 ghost use Rattle.listing.specs.Sent.{sent_by};
 
-use planner::{Answer, Done, Job, Record};
-use table::{Checked, Table};
+use planner::{Done, Job, Record};
+use table::Table;
 use task_lines::TaskRow;
 
 // The table of a text, and what forcing says of it.
@@ -26,16 +26,12 @@ fn put_tasks(out: &mut [u8], at: usize, t: Table, recs: [Record; 32]) -> usize
     requires { LegalTable t × (at + length (lines_to (line_at t recs) t.n) ≤ length out.old) }
     ensures { Put out.old at (lines_to (line_at t recs) t.n) result out.new }
 {
-    let n = t.n;
     let mut place = at;
-    let mut number: u32 = 0;
-    let mut i: usize = 0;
-    while i < n {
+    for i in 0..t.n {
         let task = t.tasks[i];
         let rec = recs[i];
-        number += 1;
         let row = TaskRow {
-            number: number,
+            number: i as u32 + 1,
             flag: rec.flag,
             forced: rec.forced,
             bound: rec.bound,
@@ -43,12 +39,12 @@ fn put_tasks(out: &mut [u8], at: usize, t: Table, recs: [Record; 32]) -> usize
             load: loads::task_load(task.cost, task.period),
         };
         place = task_lines::put_task(out, place, row);
-        i += 1;
     }
     place
 }
 
 // The listing of an accepted plan, from the place `at` on.
+#[tactic(auto, using(crate::proofs::ListedLaws::accepted_length))]
 pub fn put_accepted(
     out: &mut [u8],
     at: usize,
@@ -60,8 +56,7 @@ pub fn put_accepted(
     requires { LegalTable t × (at + length (accepted_text t recs forced passes) ≤ length out.old) }
     ensures { Put out.old at (accepted_text t recs forced passes) result out.new }
 {
-    let n = t.n;
-    let a = listing_lines::put_line_one(out, at, t.policy, t.cores, n as u32);
+    let a = listing_lines::put_line_one(out, at, t.policy, t.cores, t.n as u32);
     let b = put_tasks(out, a, t, recs);
     let total = loads::total_load(t);
     listing_lines::put_last(out, b, total, forced, passes)
@@ -73,13 +68,15 @@ pub fn put_done(out: &mut [u8], t: Table, done: Done) -> usize
     ensures { Put out.old 0 (answer_text t done.recs done.answer) result
         out.new }
 {
-    let recs = done.recs;
-    let said = done.answer;
-    match said {
-        Answer::Given(v) => put_accepted(out, 0, t, recs, v.forced, v.passes),
-        Answer::Refused { why, passes } => {
-            refusal_line::put_refusal(out, 0, why.number, why.place, passes)
-        }
+    match done.answer {
+        Ok(v) => put_accepted(out, 0, t, done.recs, v.forced, v.passes),
+        Err(stop) => refusal_line::put_refusal(
+            out,
+            0,
+            stop.why.number,
+            stop.why.place,
+            stop.passes,
+        ),
     }
 }
 
@@ -88,18 +85,12 @@ pub fn force_text(text: &[u8]) -> Sent
     ensures { result ≡ sent_by text.now }
 {
     let reading = reader::read_plan(text);
-    let found = reading.answer;
     let table = reading.table;
-    match found {
-        Checked::Fine => Sent {
-            table: table,
-            done: planner::legal_done(table, Job::Force),
-        },
-        Checked::Refused(why) => Sent {
-            table: table,
-            done: planner::refused(why, 0),
-        },
-    }
+    let done = match reading.answer {
+        Ok(()) => planner::legal_done(table, Job::Force),
+        Err(why) => planner::refused(why, 0),
+    };
+    Sent { table, done }
 }
 
 // The listing of a plan text after forcing. The answer is the number of bytes written, 0 for want of room.
@@ -109,8 +100,6 @@ pub fn write_listing(text: &[u8], out: &mut [u8]) -> usize
     if out.len() < LISTING_ROOM {
         return 0;
     }
-    let sent = force_text(text);
-    let table = sent.table;
-    let done = sent.done;
+    let Sent { table, done } = force_text(text);
     put_done(out, table, done)
 }

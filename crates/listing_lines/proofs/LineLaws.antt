@@ -1,7 +1,7 @@
 -- Each line of the listing as the words that are written one after the other, and its length by theirs.
 -- Assumes nothing.
 use Rattle.std.proofs.Common.{ℕ, ◌+◌, ◌≤◌, Bool, true, false, arith, ◌≡◌, refl, ap, ◌∙◌, ◌++◌, append_assoc}
-use Rattle.std.proofs.Common.{append-nil, length, length-append, eqb, eq-eqb, ne_eqb}
+use Rattle.std.proofs.Common.{append-nil, length, length-append}
 use Rattle.page.specs.Decimal.{decimal}
 use Rattle.page.specs.Words.{word, either, field}
 use Rattle.page.proofs.WordLaws.{either_after}
@@ -65,11 +65,5 @@ module _ (number place passes : ℕ) where
       go true e = omega (arith, forcing_length e)
       go false e = omega (arith, refusal_length e)
 
--- by the two comparisons
-pub is_fourteen : (number : ℕ) → number ≡ 14 → true ≡ of_forcing number
-unfolding of_forcing
-is_fourteen number h = rw (eq-eqb number 14 h)
-
-pub is_fifteen : (number : ℕ) → (number ≡ 14 → ⊥) → eqb number 15 ≡ of_forcing number
-unfolding of_forcing
-is_fifteen number h = rw (ne_eqb number 14 h)
+-- how long such a line is
+pub ruleset refusal_lengths = (refusal_least, forcing_length)

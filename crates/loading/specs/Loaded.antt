@@ -1,31 +1,27 @@
 -- A table in rows and flags.
 --
---   one task more in the rows                                   Stored t i .. ..
---   the checks, or a reading, of a table, and what was loaded   LoadedAs found t r ..
+--   the flags that were loaded, or the first fault              a Result of Flags
+--   the same as what the checks, or a reading, say              said_of r
+--   the checks, or a reading, of a table, and what was loaded   LoadedAs found t r x
 --
 -- Assumes nothing.
-use Rattle.std.specs.Prelude.{ℕ, ◌-◌, ◌≡◌, List, set}
+use Rattle.std.specs.Prelude.{◌≡◌, Result, Ok, Err}
 use Rattle.base.specs.Rows.{at}
-use Rattle.table.specs.declared.Task.{Task}
 use Rattle.table.specs.declared.Table.{Table}
-use Rattle.table.specs.declared.Checked.{Checked}
-use Rattle.table.specs.declared.Checked.TheVariants.{Fine}
+use Rattle.table.specs.declared.Refusal.{Refusal}
+use Rattle.table.specs.Checks.{Checked}
 use Rattle.table.specs.Table.{flags_of}
+use Rattle.flags.specs.declared.Flags.{Flags}
 use Rattle.flags.specs.Flags.{held}
-use Rattle.window.specs.Window.{inverse_of}
-use Rattle.rows.specs.Held.{RowsOf}
-use Rattle.loading.specs.declared.Loaded.{Loaded}
+use Rattle.rows.specs.declared.Rows.{Rows}
+use Rattle.rows.specs.Whole.{HeldIn}
 
-pub record Stored (t : Task) (i : ℕ) (inverses rests costs reaches inverses' rests' costs' reaches' : List ℕ)
-    : Type 0 where
-  pub inverse : inverses' ≡ set inverses i (inverse_of t.period)
-  pub rest : rests' ≡ set rests i (t.period - t.cost)
-  pub cost : costs' ≡ set costs i t.cost
-  pub reach : reaches' ≡ set reaches i (t.deadline - t.cost)
+abbrev pub said_of : Result Flags Refusal → Checked
+said_of (Ok _) = Ok tt
+said_of (Err why) = Err why
 
--- a table that is fine is in the rows, the head and the flags
-pub record LoadedAs (found : Checked) (t : Table) (r : Loaded) (inverses rests costs reaches : List ℕ)
-    : Type 0 where
-  pub answer : r.answer ≡ found
-  pub rows : found ≡ Fine → RowsOf t inverses rests costs reaches r.head
-  pub given : found ≡ Fine → r.given ≡ held (at (flags_of t)) t.n
+-- a table that is fine is in the rows and the flags
+pub record LoadedAs (found : Checked) (t : Table) (r : Result Flags Refusal) (x : Rows) : Type 0 where
+  pub answer : said_of r ≡ found
+  pub rows : found ≡ Ok tt → HeldIn t x
+  pub given : found ≡ Ok tt → r ≡ Ok (held (at (flags_of t)) t.n)

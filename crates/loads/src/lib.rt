@@ -12,7 +12,7 @@ pub fn task_load(cost: u32, period: u32) -> u32
     requires { (cost ≤ 1000000) × (0 < period) × (period ≤ 1000000) }
     ensures { result ≡ load cost period }
 {
-    (1000 * cost + (period - 1)) / period
+    (1000 * cost).div_ceil(period)
 }
 
 // The sum of the tasks' loads.
@@ -20,13 +20,9 @@ pub fn total_load(t: Table) -> u32
     requires { LegalTable t }
     ensures { result ≡ total_load t }
 {
-    let n = t.n;
     let mut total: u32 = 0;
-    let mut i: usize = 0;
-    while i < n {
-        let task = t.tasks[i];
+    for task in &t.tasks[..t.n] {
         total += task_load(task.cost, task.period);
-        i += 1;
     }
     total
 }

@@ -14,7 +14,7 @@ use Rattle.model.specs.Forcing.{test, lowest, lacks, lacking, made, run, force}
 use Rattle.model.specs.Demands.{Passes}
 use Rattle.table.specs.declared.Task.{Task}
 use Rattle.table.specs.declared.Table.{Table}
-use Rattle.table.specs.declared.Checked.TheVariants.{Fine}
+use Rattle.std.proofs.Common.{Ok}
 use Rattle.table.specs.Table.{task_at, level_at, policy_of, system_of, flags_of, LegalTable}
 use Rattle.table.specs.Checks.{head_fault, task_fault, faulty_task, check_of}
 use Rattle.table.proofs.TableLaws.{fine_legal}
@@ -30,7 +30,7 @@ two P a b = below_next P 1 (below_next P 0 (below_none P) a) b
 three : (P : ℕ → Type 0) → P 0 → P 1 → P 2 → (i : ℕ) → i < 3 → P i
 three P a b c = below_next P 2 (two P a b) c
 
-both : {p : Policy} {t u : Table} → policy_of t.policy ≡ p → check_of t ≡ Fine → check_of u ≡ Fine → Bare t
+both : {p : Policy} {t u : Table} → policy_of t.policy ≡ p → check_of t ≡ Ok tt → check_of u ≡ Ok tt → Bare t
     → Bare u → Both p t u
 both policy t u bare bare_after = record {
   policy = policy;

@@ -4,6 +4,7 @@
 use Rattle.std.proofs.Common.{ℕ, ◌+◌, ◌-◌, ◌≤◌, ◌<◌, arith, le_refl, ◌≡◌, refl, sym, ap, ◌∙◌, subst, false}
 use Rattle.std.proofs.Common.{⊎_elim, leb-false, lt-ltb, le-ltb}
 use borrow.Author.Tests.{lt-leb}
+use Rattle.base.proofs.OrderLaws.{le_or_lt}
 use Rattle.base.proofs.LeastLaws.{Found, Answer, least_says}
 use Rattle.model.specs.Bound.{System, by_flag, from, B, satisfies, least_length, bound}
 use Rattle.model.proofs.TermLaws.{B-mono}
@@ -17,9 +18,12 @@ pub q_none : {b c : ℕ} → b < c → 0 ≡ q_of b c
 unfolding q_of
 q_none {b} {c} lt = rw (lt-ltb b c lt) refl
 
-pub q_some : {b c : ℕ} → c ≤ b → b - (c - 1) ≡ q_of b c
+-- as it is taken, both ways
+pub q_taken : (b c : ℕ) → b - (c - 1) ≡ q_of b c
 unfolding q_of
-q_some {b} {c} le = rw (le-ltb b c le) refl
+q_taken b c =
+    ⊎_elim (λ le. rw (le-ltb b c le) refl) (λ less. omega (arith, q_none {b = b} {c = c} less))
+    (le_or_lt c b)
 
 -- under more non-preemptive tasks, what was not enough is not
 module _ (s : System) (fl fl' : ℕ → ℕ) (k : ℕ) (less : (i : ℕ) → i < s.count → fl' i ≤ fl i)
@@ -70,7 +74,7 @@ module _ (s : System) (fl : ℕ → ℕ) (k b : ℕ) (pos : 0 < s.C k) (pre : fl
         (λ (f : Found (satisfies s fl k) (s.D k - s.C k + 1) (from s fl k) (least_length s fl k)).
         let is : b ≡ least_length s fl k =
         e ∙ sym (bound_pre s fl k _ refl (λ z. omega (arith, f.low, first_is)) pre) in
-        subst (NoneSooner s fl k) (q_some (omega (arith, is, f.low, first_is))) (record {
+        subst (NoneSooner s fl k) (q_taken b (s.C k)) (record {
           room = omega (arith, is, f.high, first_is);
           fails = λ q low lt.
               f.before _ (omega (arith, first_is, ahead_is)) (omega (arith, is, f.low, first_is, ahead_is));

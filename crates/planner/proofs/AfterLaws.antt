@@ -7,12 +7,11 @@ use Rattle.base.proofs.RowLaws.{row_length, row_at}
 use Rattle.model.specs.Demands.{Passes}
 use Rattle.table.specs.Table.{system_of}
 use Rattle.table.specs.declared.Table.{Table}
-use Rattle.planner.specs.declared.Answer.{Answer}
+use Rattle.planner.specs.Answers.{Answer, given, refused, values_of, entry, no_record, record_at, changes}
 use Rattle.planner.specs.declared.Record.{Record}
 use Rattle.planner.specs.declared.Done.{Done}
 use Rattle.planner.specs.declared.Job.{Job}
 use Rattle.planner.specs.declared.Job.TheVariants.{Test, Force}
-use Rattle.planner.specs.Answers.{given, refused, values_of, entry, no_record, record_at, changes}
 use Rattle.planner.specs.Done.{sent, tested, final, ended, test_done, force_done, legal_done, room_done}
 use Rattle.planner.specs.Done.{list_after}
 use Rattle.planner.specs.Calls.{Call, done_of, Sends}

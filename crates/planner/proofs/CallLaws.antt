@@ -1,8 +1,7 @@
 -- What a call is answered, by what it sends: the answer to its table, or its first fault; and every call
 -- sends a legal table or has a first fault, never both. Assumes nothing.
-use Rattle.std.proofs.Common.{ℕ, arith, ◌≡◌, sym, ◌∙◌, ◌⊎◌, inl, inr, ⊎_elim}
+use Rattle.std.proofs.Common.{ℕ, arith, ◌≡◌, sym, ◌∙◌, ◌⊎◌, inl, inr, ⊎_elim, Ok}
 use Rattle.table.specs.declared.Table.{Table}
-use Rattle.table.specs.declared.Checked.TheVariants.{Fine}
 use Rattle.table.specs.Table.{LegalTable}
 use Rattle.table.specs.Checks.{refusal, faulty}
 use Rattle.table.proofs.TableLaws.{legal_fine, fault_checked, table_cases}
@@ -43,5 +42,5 @@ pub call_not_both : {c : Call} {t : Table} {f p : ℕ} → Sends c t → Faulty 
 call_not_both (by_text w) (in_text m) = text_not_both w m
 call_not_both (by_list cores policy ts legal) (in_list w) = clash (legal_fine legal ∙ sym (fault_checked w))
   where
-    clash : {f p : ℕ} → Fine ≡ faulty f p → ⊥
+    clash : {f p : ℕ} → Ok tt ≡ faulty f p → ⊥
     clash e = let z : ◌≡◌ {A = ℕ} 0 1 = cc in omega arith

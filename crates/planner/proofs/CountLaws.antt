@@ -1,18 +1,16 @@
 -- How many records an answer writes: none if it refuses, else one for each task; the list has room for them.
 -- Assumes nothing.
 use Rattle.std.proofs.Common.{ℕ, zero, suc, ◌≤◌, arith, ◌≡◌, refl, ap, Bool, true, false, List, length, ltb}
-use Rattle.std.proofs.Common.{ltb-false}
+use Rattle.std.proofs.Common.{ltb-false, Ok, Err}
 use Rattle.std.proofs.Math.ListN.{length-replicate}
 use Rattle.base.specs.Choice.{pick, or_else}
 use Rattle.base.proofs.RowLaws.{row_length}
 use Rattle.model.specs.Forcing.{Final}
 use Rattle.table.specs.Table.{LegalTable}
-use Rattle.table.specs.Checks.{refusal, check_of}
+use Rattle.table.specs.Checks.{refusal, check_of, Checked}
 use Rattle.table.specs.declared.Task.{Task}
 use Rattle.table.specs.declared.Table.{Table}
 use Rattle.table.specs.declared.Refusal.{Refusal}
-use Rattle.table.specs.declared.Checked.{Checked}
-use Rattle.table.specs.declared.Checked.TheVariants.{Fine, Refused as Faulty}
 use Rattle.table.proofs.TableLaws.{fine_legal}
 use Rattle.flags.specs.declared.Flags.{Flags}
 use Rattle.lines.specs.Reads.{read_of}
@@ -85,11 +83,11 @@ pub record Small (room : ℕ) (d : Done) : Type 0 where
   pub few : d.count ≤ 32
   pub long : length d.recs ≡ 32
 
-pub checked_small : (n room : ℕ) (d : Done) → Fits n room d → (c : Checked) → (c ≡ Fine → n ≤ 32)
+pub checked_small : (n room : ℕ) (d : Done) → Fits n room d → (c : Checked) → (c ≡ Ok tt → n ≤ 32)
     → Small room (unless_faulty c d)
-checked_small n room d f Fine legal =
+checked_small n room d f (Ok _) legal =
     record { fits = f.fits; few = omega (arith, f.counted.most, legal refl); long = f.counted.long }
-checked_small n room d f (Faulty why) legal =
+checked_small n room d f (Err why) legal =
     record { fits = omega arith; few = omega arith; long = length-replicate 32 no_record }
 
 pub plan_small : (text : List ℕ) (job : Job) (room : ℕ) → Small room (plan_done text job room)

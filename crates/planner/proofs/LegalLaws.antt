@@ -14,8 +14,7 @@ use Rattle.table.specs.declared.Table.{Table}
 use Rattle.planner.specs.declared.Done.{Done}
 use Rattle.planner.specs.declared.Job.{Job}
 use Rattle.planner.specs.declared.Job.TheVariants.{Test, Force}
-use Rattle.planner.specs.declared.Answer.{Answer}
-use Rattle.planner.specs.Answers.{given}
+use Rattle.planner.specs.Answers.{Answer, given}
 use Rattle.planner.specs.Done.{refuse, sent, tested, final, ended, failing, test_done, force_done}
 use Rattle.planner.specs.Done.{legal_done}
 use Rattle.planner.specs.Ways.{Verdicts, tested_yes, tested_no, forced_yes, fourteen}

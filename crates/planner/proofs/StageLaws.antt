@@ -1,7 +1,7 @@
 -- The stages of the code: what its rows and flags hold is what the definitions say, and each return is a case
 -- of its definition. Assumes nothing.
 use Rattle.std.proofs.Common.{ℕ, zero, suc, ◌+◌, ◌≤◌, ◌<◌, arith, ◌≡◌, refl, sym, ap, ap₂, ◌∙◌, true, List}
-use Rattle.std.proofs.Common.{set, eqb, lt-ltb, le-ltb}
+use Rattle.std.proofs.Common.{set, eqb, lt-ltb, le-ltb, Ok, Err}
 use Rattle.base.specs.Sums.{sum_to}
 use Rattle.base.specs.Least.{first_of}
 use Rattle.base.specs.Rows.{at, row}
@@ -13,10 +13,9 @@ use Rattle.model.specs.Demands.{Timed, Flags as Flagged}
 use Rattle.model.proofs.BoundLaws.{bound_same}
 use Rattle.model.proofs.DemandLaws.{forced_falls}
 use Rattle.table.specs.Table.{system_of, flags_of, LegalTable}
-use Rattle.table.specs.Checks.{refusal, check_of}
+use Rattle.table.specs.Checks.{refusal, check_of, Checked}
 use Rattle.table.specs.declared.Refusal.{Refusal}
-use Rattle.table.specs.declared.Checked.{Checked}
-use Rattle.table.specs.declared.Checked.TheVariants.{Fine, Refused as Faulty}
+use Rattle.planner.specs.Answers.{stop, given, entry, no_record, records_of, changes}
 use Rattle.table.specs.declared.Table.{Table}
 use Rattle.table.proofs.TableLaws.{flags_at}
 use Rattle.flags.specs.declared.Flags.{Flags}
@@ -33,10 +32,8 @@ use Rattle.forcing.proofs.TableLaws.{given_at, rows_force}
 use Rattle.planner.specs.declared.Record.{Record}
 use Rattle.planner.specs.declared.Done.{Done}
 use Rattle.planner.specs.declared.Said.{Said}
-use Rattle.planner.specs.declared.Answer.TheVariants.{Refused}
 use Rattle.planner.specs.declared.Job.{Job}
 use Rattle.planner.specs.declared.Job.TheVariants.{Test, Force}
-use Rattle.planner.specs.Answers.{given, entry, no_record, records_of, changes}
 use Rattle.planner.specs.Rows.{unsaid, said_done}
 use Rattle.planner.specs.Done.{finish, refuse, sent, tested, final, ended, changed_by, failing}
 use Rattle.planner.specs.Done.{tested_by, forced_by, roomed}
@@ -81,7 +78,7 @@ pub said_refused : {s : Said} {why : Refusal} {passes : ℕ} (sent_flags : Flags
 unfolding said_done
 said_refused {why = why} {passes = passes} sent_flags bounds e =
     ap (λ (x : Said). said_done sent_flags x bounds) e
-    ∙ ap (λ (rs : List Record). record { answer = Refused why passes; count = 0; recs = rs })
+    ∙ ap (λ (rs : List Record). record { answer = Err (stop why passes); count = 0; recs = rs })
     (sym (fill_start no_record _))
 
 -- What forcing leaves in hand is where it ends: the flags, the passes, the lowest failing task.
@@ -252,21 +249,16 @@ module _ (t : Table) (job : Job) where
 
 -- by what the reading says, and what the checks say
 module _ (text : List ℕ) {r : Reading} (e : r ≡ read_of text) (job : Job) (room : ℕ) where
-  pub plan_fine : r.answer ≡ Fine → room_done r.table job room ≡ plan_done text job room
+  pub plan_fine : r.answer ≡ Ok tt → room_done r.table job room ≡ plan_done text job room
   unfolding plan_done
   plan_fine fine = rw (← e, fine)
 
-  pub plan_faulty : {why : Refusal} → r.answer ≡ Faulty why → refuse why 0 ≡ plan_done text job room
+  pub plan_faulty : {why : Refusal} → r.answer ≡ Err why → refuse why 0 ≡ plan_done text job room
   unfolding plan_done
   plan_faulty fault = rw (← e, fault)
 
 module _ (t : Table) {found : Checked} (e : found ≡ check_of t) (job : Job) (room : ℕ) where
-  pub list_fine : found ≡ Fine
+  pub list_fine : found ≡ Ok tt
       → room_done t job room ≡ list_done t.cores t.policy t.n t.tasks job room
   unfolding list_done
   list_fine fine = rw (← e, fine)
-
-  pub list_faulty : {why : Refusal} → found ≡ Faulty why
-      → refuse why 0 ≡ list_done t.cores t.policy t.n t.tasks job room
-  unfolding list_done
-  list_faulty fault = rw (← e, fault)

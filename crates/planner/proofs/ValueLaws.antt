@@ -11,9 +11,8 @@ use Rattle.table.specs.Faults.{Within, HeadWrong, TaskWrong, TableWrong, in_head
 use Rattle.table.specs.Faults.{count, flag, period, deadline, cost, level}
 use Rattle.lines.proofs.Theorems.{wrong_numbers, wrong_places}
 use Rattle.flags.specs.Flags.{changed}
-use Rattle.planner.specs.declared.Answer.{Answer}
+use Rattle.planner.specs.Answers.{Answer, Values, refused, values_of, changes}
 use Rattle.planner.specs.declared.Job.{Job}
-use Rattle.planner.specs.Answers.{Values, refused, values_of, changes}
 use Rattle.planner.specs.Done.{sent, final, ended, count_forced}
 use Rattle.planner.specs.Calls.{Call, Faulty, in_text, in_list, done_of}
 use Rattle.planner.specs.Ways.{Verdicts, tested_yes, tested_no, forced_yes, fourteen, Way, faulty, full}

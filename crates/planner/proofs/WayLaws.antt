@@ -7,7 +7,7 @@ use Rattle.table.specs.Checks.{refusal}
 use Rattle.table.specs.declared.Table.{Table}
 use Rattle.planner.specs.declared.Done.{Done}
 use Rattle.planner.specs.declared.Job.{Job}
-use Rattle.planner.specs.declared.Answer.{Answer}
+use Rattle.planner.specs.Answers.{Answer}
 use Rattle.planner.specs.Done.{refuse, legal_done, room_done}
 use Rattle.planner.specs.Calls.{Call, done_of, Sends}
 use Rattle.planner.specs.Ways.{Verdicts, Way, faulty, full, answered}

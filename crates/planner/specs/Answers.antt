@@ -10,19 +10,27 @@
 --   the forced marks: 1 for each changed task           changes given flags
 --
 -- Assumes nothing.
-use Rattle.std.specs.Prelude.{ℕ, Bool, false, List, get_or}
+use Rattle.std.specs.Prelude.{ℕ, Bool, false, List, get_or, Ok, Err, Result}
 use Rattle.base.specs.Rows.{row}
+use Rattle.table.specs.declared.Refusal.{Refusal}
 use Rattle.table.specs.Checks.{refusal}
 use Rattle.flags.specs.Flags.{changed}
+use Rattle.planner.specs.declared.Verdict.{Verdict}
+use Rattle.planner.specs.declared.Stop.{Stop}
 use Rattle.planner.specs.declared.Record.{Record}
-use Rattle.planner.specs.declared.Answer.{Answer}
-use Rattle.planner.specs.declared.Answer.TheVariants.{Given, Refused}
+
+-- a verdict, or a refusal with the passes that were made
+abbrev pub Answer : Type 0
+Answer = Result Verdict Stop
+
+abbrev pub stop : Refusal → ℕ → Stop
+stop why passes = record { why = why; passes = passes }
 
 abbrev pub given : Bool → ℕ → ℕ → Answer
-given says forced passes = Given (record { yes = says; forced = forced; passes = passes })
+given says forced passes = Ok (record { yes = says; forced = forced; passes = passes })
 
 abbrev pub refused : ℕ → ℕ → ℕ → Answer
-refused number place passes = Refused (refusal number place) passes
+refused number place passes = Err (stop (refusal number place) passes)
 
 pub record Values : Type 0 where
   pub number : ℕ
@@ -34,7 +42,7 @@ pub record Values : Type 0 where
 
 -- the answer to a table of n tasks: a no is no refusal, and only a refusal writes no record
 abbrev pub values_of : ℕ → Answer → Values
-values_of n (Given v) = record {
+values_of n (Ok v) = record {
   number = 0;
   place = 0;
   yes = v.yes;
@@ -42,12 +50,12 @@ values_of n (Given v) = record {
   passes = v.passes;
   written = n;
 }
-values_of n (Refused why passes) = record {
-  number = why.number;
-  place = why.place;
+values_of n (Err s) = record {
+  number = s.why.number;
+  place = s.why.place;
   yes = false;
   forced = 0;
-  passes = passes;
+  passes = s.passes;
   written = 0;
 }
 

@@ -15,7 +15,7 @@ use Rattle.table.specs.Table.{LegalTable}
 use Rattle.table.specs.Faults.{TableWrong}
 use Rattle.lines.specs.Writes.{WrittenAs}
 use Rattle.lines.specs.Wrong.{TextWrong}
-use Rattle.planner.specs.declared.Answer.{Answer}
+use Rattle.planner.specs.Answers.{Answer}
 use Rattle.planner.specs.declared.Done.{Done}
 use Rattle.planner.specs.declared.Job.{Job}
 use Rattle.planner.specs.declared.Record.{Record}

@@ -12,26 +12,22 @@
 --   the caller's list afterwards                       list_after
 --
 -- Assumes nothing.
-use Rattle.std.specs.Prelude.{ℕ, suc, min, true, List, ◌++◌, length, take, drop, replicate, ltb, eqb}
+use Rattle.std.specs.Prelude.{ℕ, suc, min, true, List, ◌++◌, length, take, drop, replicate, ltb, eqb, Ok, Err}
 use Rattle.base.specs.Choice.{pick, or_else}
 use Rattle.base.specs.Sums.{sum_to}
 use Rattle.base.specs.Rows.{at}
 use Rattle.model.specs.Forcing.{Final, test, force, lowest}
 use Rattle.table.specs.Table.{no_task, system_of, flags_of}
-use Rattle.table.specs.Checks.{refusal, check_of}
+use Rattle.table.specs.Checks.{refusal, check_of, Checked}
 use Rattle.table.specs.declared.Task.{Task}
 use Rattle.table.specs.declared.Table.{Table}
 use Rattle.table.specs.declared.Refusal.{Refusal}
-use Rattle.table.specs.declared.Checked.{Checked}
-use Rattle.table.specs.declared.Checked.TheVariants.{Fine, Refused as Faulty}
+use Rattle.planner.specs.Answers.{stop, Answer, given, values_of, no_record, records_of, changes}
 use Rattle.lines.specs.Reads.{read_of}
 use Rattle.planner.specs.declared.Record.{Record}
 use Rattle.planner.specs.declared.Done.{Done}
 use Rattle.planner.specs.declared.Job.{Job}
 use Rattle.planner.specs.declared.Job.TheVariants.{Test, Force}
-use Rattle.planner.specs.declared.Answer.{Answer}
-use Rattle.planner.specs.declared.Answer.TheVariants.{Refused}
-use Rattle.planner.specs.Answers.{given, values_of, no_record, records_of, changes}
 
 -- the answer to a table of n tasks, with its records: as many as its case writes
 abbrev pub finish : ℕ → Answer → List Record → Done
@@ -39,7 +35,7 @@ finish n a recs = record { answer = a; count = (values_of n a).written; recs = r
 
 -- a refusal, after so many passes
 abbrev pub refuse : Refusal → ℕ → Done
-refuse why passes = finish 0 (Refused why passes) (replicate 32 no_record)
+refuse why passes = finish 0 (Err (stop why passes)) (replicate 32 no_record)
 
 -- the flags as sent; the bounds of a test of the table as sent; where forcing of the table ends
 abbrev pub sent : Table → ℕ → ℕ
@@ -99,8 +95,8 @@ room_done t job room = roomed t room (legal_done t job)
 
 -- a fault of the reading or of the checks is the answer; else what follows is
 abbrev pub unless_faulty : Checked → Done → Done
-unless_faulty Fine d = d
-unless_faulty (Faulty why) d = refuse why 0
+unless_faulty (Ok _) d = d
+unless_faulty (Err why) d = refuse why 0
 
 unfoldable pub plan_done : List ℕ → Job → ℕ → Done
 plan_done text job room = unless_faulty (read_of text).answer (room_done (read_of text).table job room)

@@ -17,8 +17,7 @@ use Rattle.flags.specs.Flags.{changed}
 use Rattle.planner.specs.declared.Record.{Record}
 use Rattle.planner.specs.declared.Job.{Job}
 use Rattle.planner.specs.declared.Job.TheVariants.{Test, Force}
-use Rattle.planner.specs.declared.Answer.{Answer}
-use Rattle.planner.specs.Answers.{given, refused, entry}
+use Rattle.planner.specs.Answers.{Answer, given, refused, entry}
 use Rattle.planner.specs.Done.{sent, final, ended, count_forced}
 use Rattle.planner.specs.Calls.{Call, Sends, Faulty}
 

@@ -6,15 +6,14 @@ ghost use Rattle.std.specs.Prelude.{◌≡◌, ◌≤◌, replicate};
 ghost use Rattle.base.specs.Rows.{at};
 ghost use Rattle.table.specs.Table.{LegalTable};
 ghost use Rattle.flags.specs.Flags.{flag_in, held};
-ghost use Rattle.rows.specs.Held.{LegalRows};
-ghost use Rattle.planner.specs.Answers.{changes, records_of};
+ghost use Rattle.planner.specs.Answers.{stop, changes, records_of};
 ghost use Rattle.planner.specs.Done.{refuse, test_done, force_done, legal_done, room_done, plan_done};
 ghost use Rattle.planner.specs.Done.{list_done};
 ghost use Rattle.planner.specs.Rows.{unsaid, said_done, OfTable};
 
 use flags::Flags;
-use rows::Head;
-use table::{Checked, Refusal, Table, Task};
+use rows::Rows;
+use table::{Refusal, Table, Task};
 
 // One record of an answer: the task's flag, 1 if it was forced, and its bound, 0 for none.
 #[repr(C)]
@@ -34,12 +33,15 @@ pub struct Verdict {
     pub passes: u32,
 }
 
-// A verdict, or a refusal with the passes that were made.
+// A refusal with the passes that were made.
 #[derive(Clone, Copy)]
-pub enum Answer {
-    Given(Verdict),
-    Refused { why: Refusal, passes: u32 },
+pub struct Stop {
+    pub why: Refusal,
+    pub passes: u32,
 }
+
+// What is answered: a verdict, or the refusal.
+pub type Answer = Result<Verdict, Stop>;
 
 // An answer with its records beside it. The first count of them go to the caller's list, none if it refuses.
 #[derive(Clone, Copy)]
@@ -56,6 +58,15 @@ pub struct Said {
     pub answer: Answer,
     pub count: usize,
     pub flags: Flags,
+}
+
+// A refusal with no pass before it.
+impl From<Refusal> for Stop {
+    ghost from_gives = { λ why s. s ≡ stop why 0 };
+
+    fn from(why: Refusal) -> Stop {
+        Stop { why, passes: 0 }
+    }
 }
 
 // What is asked for.
@@ -76,12 +87,8 @@ pub const NO_RECORD: Record = Record {
 pub fn refused(why: Refusal, passes: u32) -> Done
     ensures { result ≡ refuse why passes }
 {
-    let answer = Answer::Refused {
-        why: why,
-        passes: passes,
-    };
     Done {
-        answer: answer,
+        answer: Err(Stop { why, passes }),
         count: 0,
         recs: [NO_RECORD; 32],
     }
@@ -91,12 +98,8 @@ pub fn refused(why: Refusal, passes: u32) -> Done
 pub fn unsaid(why: Refusal, passes: u32, given: Flags) -> Said
     ensures { result ≡ unsaid why passes given }
 {
-    let answer = Answer::Refused {
-        why: why,
-        passes: passes,
-    };
     Said {
-        answer: answer,
+        answer: Err(Stop { why, passes }),
         count: 0,
         flags: given,
     }
@@ -109,108 +112,69 @@ pub fn records(n: usize, given: Flags, flags: Flags, bounds: &[u32; 32]) -> [Rec
         (at bounds.now) }
 {
     let mut recs = [NO_RECORD; 32];
-    let mut i: usize = 0;
-    while i < n {
+    for i in 0..n {
         let flag = flags::flag_at(flags, i);
         let forced = flags::change(flags::flag_at(given, i), flag);
-        let one = Record {
-            flag: flag,
-            forced: forced,
+        recs[i] = Record {
+            flag,
+            forced,
             bound: bounds[i],
         };
-        recs[i] = one;
-        i += 1;
     }
     recs
 }
 
 // The test of the rows of a legal table, and its flags.
-fn tested<'a>(
-    head: Head,
-    inverse: &'a [u64; 32],
-    rest: &'a [u32; 32],
-    cost: &'a [u32; 32],
-    reach: &'a [u32; 32],
-    given: Flags,
-    bounds: &'a mut [u32; 32],
-) -> Said
-    requires { (LegalRows head inverse.now rest.now cost.now reach.now)
-        × (bounds.old ≡ replicate 32 0) }
-    ensures { OfTable test_done head inverse.now rest.now cost.now
-        reach.now given (said_done given result bounds.new) }
+fn tested(rows: &Rows, given: Flags, bounds: &mut [u32; 32]) -> Said
+    requires { (bounds.old ≡ replicate 32 0) }
+    ensures { OfTable test_done rows.now given (said_done given result bounds.new) }
 {
-    let n = head.n;
-    passes::test_rows(head, inverse, rest, cost, reach, given, bounds);
-    let failing = flags::lowest_failing(flags::failing_of(n, bounds));
-    let verdict = Verdict {
-        yes: failing == 0,
-        forced: 0,
-        passes: 0,
-    };
+    passes::test_rows(rows, given, bounds);
+    let failing = flags::lowest_failing(flags::failing_of(rows.head.n, bounds));
     Said {
-        answer: Answer::Given(verdict),
-        count: n,
+        answer: Ok(Verdict {
+            yes: failing == 0,
+            forced: 0,
+            passes: 0,
+        }),
+        count: rows.head.n,
         flags: given,
     }
 }
 
 // Forcing of them: refused with the lowest failing task and the passes, or accepted.
-fn forced<'a>(
-    head: Head,
-    inverse: &'a [u64; 32],
-    rest: &'a [u32; 32],
-    cost: &'a [u32; 32],
-    reach: &'a [u32; 32],
-    given: Flags,
-    bounds: &'a mut [u32; 32],
-) -> Said
-    requires { (LegalRows head inverse.now rest.now cost.now reach.now)
-        × (given ≡ held (flag_in given) head.n) × (bounds.old ≡ replicate 32 0) }
-    ensures { OfTable force_done head inverse.now rest.now cost.now
-        reach.now given (said_done given result bounds.new) }
+fn forced(rows: &Rows, given: Flags, bounds: &mut [u32; 32]) -> Said
+    requires { (given ≡ held (flag_in given) rows.now.head.n) × (bounds.old ≡ replicate 32 0) }
+    ensures { OfTable force_done rows.now given (said_done given result bounds.new) }
 {
-    let n = head.n;
-    let end = forcing::force_rows(head, inverse, rest, cost, reach, given, bounds);
-    let failing = end.failing;
-    if failing != 0 {
+    let end = forcing::force_rows(rows, given, bounds);
+    if end.failing != 0 {
         let why = Refusal {
             number: 14,
-            place: failing,
+            place: end.failing,
         };
         return unsaid(why, end.passes, given);
     }
-    let flags = end.flags;
-    let verdict = Verdict {
-        yes: true,
-        forced: flags::count_changed(given, flags),
-        passes: end.passes,
-    };
     Said {
-        answer: Answer::Given(verdict),
-        count: n,
-        flags: flags,
+        answer: Ok(Verdict {
+            yes: true,
+            forced: flags::count_changed(given, end.flags),
+            passes: end.passes,
+        }),
+        count: rows.head.n,
+        flags: end.flags,
     }
 }
 
 // What a legal table is answered, from its rows and flags. The bounds of the records are left in the row.
-pub fn rows_said<'a>(
-    job: Job,
-    head: Head,
-    inverse: &'a [u64; 32],
-    rest: &'a [u32; 32],
-    cost: &'a [u32; 32],
-    reach: &'a [u32; 32],
-    given: Flags,
-    bounds: &'a mut [u32; 32],
-) -> Said
-    requires { (LegalRows head inverse.now rest.now cost.now reach.now)
-        × (given ≡ held (flag_in given) head.n) × (bounds.old ≡ replicate 32 0) }
-    ensures { OfTable (λ t. legal_done t job) head inverse.now rest.now
-        cost.now reach.now given (said_done given result bounds.new) }
+#[tactic(auto, unfolding(crate::specs::Done::legal_done))]
+pub fn rows_said(job: Job, rows: &Rows, given: Flags, bounds: &mut [u32; 32]) -> Said
+    requires { (given ≡ held (flag_in given) rows.now.head.n) × (bounds.old ≡ replicate 32 0) }
+    ensures { OfTable (λ t. legal_done t job) rows.now given (said_done given result bounds.new) }
 {
     match job {
-        Job::Test => tested(head, inverse, rest, cost, reach, given, bounds),
-        Job::Force => forced(head, inverse, rest, cost, reach, given, bounds),
+        Job::Test => tested(rows, given, bounds),
+        Job::Force => forced(rows, given, bounds),
     }
 }
 
@@ -219,40 +183,24 @@ pub fn legal_done(t: Table, job: Job) -> Done
     requires { LegalTable t }
     ensures { result ≡ legal_done t job }
 {
-    let mut inverse = [0u64; 32];
-    let mut rest = [0u32; 32];
-    let mut cost = [0u32; 32];
-    let mut reach = [0u32; 32];
-    let mut bounds = [0u32; 32];
-    let head = rows::rows_of(t, &mut inverse, &mut rest, &mut cost, &mut reach);
+    let rows = rows::rows_of(t);
     let given = flags::flags_of(t);
-    let said = rows_said(
-        job,
-        head,
-        &inverse,
-        &rest,
-        &cost,
-        &reach,
-        given,
-        &mut bounds,
-    );
-    let answer = said.answer;
-    let count = said.count;
-    let flags = said.flags;
+    let mut bounds = [0u32; 32];
+    let said = rows_said(job, &rows, given, &mut bounds);
     Done {
-        answer: answer,
-        count: count,
-        recs: records(count, given, flags, &bounds),
+        answer: said.answer,
+        count: said.count,
+        recs: records(said.count, given, said.flags, &bounds),
     }
 }
 
 // 13 before any test, where the caller's list has too little room.
+#[tactic(auto, unfolding(crate::specs::Done::room_done))]
 fn room_done(t: Table, job: Job, room: usize) -> Done
     requires { LegalTable t }
     ensures { result ≡ room_done t job room }
 {
-    let n = t.n;
-    if room < n {
+    if room < t.n {
         let why = Refusal {
             number: 13,
             place: 0,
@@ -263,19 +211,19 @@ fn room_done(t: Table, job: Job, room: usize) -> Done
 }
 
 // The answer to a plan; room is the length of the caller's list.
+#[tactic(auto, unfolding(crate::specs::Done::plan_done))]
 pub fn plan_done(text: &[u8], job: Job, room: usize) -> Done
     ensures { result ≡ plan_done text.now job room }
 {
     let reading = reader::read_plan(text);
-    let found = reading.answer;
-    let t = reading.table;
-    match found {
-        Checked::Fine => room_done(t, job, room),
-        Checked::Refused(why) => refused(why, 0),
+    match reading.answer {
+        Ok(()) => room_done(reading.table, job, room),
+        Err(why) => refused(why, 0),
     }
 }
 
 // The answer to a list of n tasks, of which those past the 32nd are not there.
+#[tactic(auto, unfolding(crate::specs::Done::list_done))]
 pub fn list_done(
     cores: u32,
     policy: u32,
@@ -287,14 +235,13 @@ pub fn list_done(
     ensures { result ≡ list_done cores policy n tasks job room }
 {
     let t = Table {
-        cores: cores,
-        policy: policy,
-        n: n,
-        tasks: tasks,
+        cores,
+        policy,
+        n,
+        tasks,
     };
-    let found = table::check_table(t);
-    match found {
-        Checked::Fine => room_done(t, job, room),
-        Checked::Refused(why) => refused(why, 0),
+    match table::check_table(t) {
+        Ok(()) => room_done(t, job, room),
+        Err(why) => refused(why, 0),
     }
 }

@@ -4,17 +4,14 @@
 ghost use Rattle.std.specs.Prelude.{◌≡◌};
 ghost use Rattle.lines.specs.Reads.{refused, read_of};
 
-use lines::{NO_TABLE, Reading};
-use table::{Checked, Refusal};
+use lines::{Front, NO_TABLE, Reading};
+use table::Refusal;
 
 fn refused(number: u32, place: u32) -> Reading
     ensures { result ≡ refused number place }
 {
     Reading {
-        answer: Checked::Refused(Refusal {
-            number: number,
-            place: place,
-        }),
+        answer: Err(Refusal { number, place }),
         table: NO_TABLE,
     }
 }
@@ -23,23 +20,9 @@ fn refused(number: u32, place: u32) -> Reading
 pub fn read_plan(text: &[u8]) -> Reading
     ensures { result ≡ read_of text.now }
 {
-    let front = front_reader::read_front(text);
-    let table = front.table;
-    let place = table.n as u32 + 2;
-    let answer = front.answer;
+    let Front { answer, table, end } = front_reader::read_front(text);
     match answer {
-        Checked::Refused(fault) => Reading {
-            answer: Checked::Refused(fault),
-            table: table,
-        },
-        Checked::Fine => {
-            if front.end < text.len() {
-                return refused(12, place);
-            }
-            Reading {
-                answer: Checked::Fine,
-                table: table,
-            }
-        }
+        Ok(()) if end < text.len() => refused(12, table.n as u32 + 2),
+        _ => Reading { answer, table },
     }
 }

@@ -6,16 +6,15 @@ ghost use Rattle.buffer.specs.Put.{Put};
 ghost use Rattle.listing_lines.specs.Lines.{of_forcing, refusal_line};
 
 // Whether forcing ends in this refusal.
+#[tactic(auto, unfolding(listing_lines::specs::Lines::of_forcing))]
 fn of_forcing(number: u32) -> bool
     ensures { result ≡ of_forcing number }
 {
-    if number == 14 {
-        return true;
-    }
-    number == 15
+    matches!(number, 14 | 15)
 }
 
 // A refusal's line: number and place, and for 14 and 15 the passes.
+#[tactic(auto, using(listing_lines::proofs::LineLaws::refusal_lengths))]
 pub fn put_refusal(out: &mut [u8], at: usize, number: u32, place: u32, passes: u32) -> usize
     requires { at + length (refusal_line number place passes) ≤ length out.old }
     ensures { Put out.old at (refusal_line number place passes) result out.new }

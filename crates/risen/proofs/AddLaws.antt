@@ -1,6 +1,6 @@
 -- The loop that adds what is kept: the sums and the row after i places.
 -- Assumes nothing.
-use Rattle.std.proofs.Common.{ℕ, zero, suc, ◌+◌, ◌-◌, ◌≤◌, ◌<◌, arith, ◌≡◌, refl, ap, ap₂, ◌∙◌, List, set}
+use Rattle.std.proofs.Common.{ℕ, zero, suc, ◌+◌, ◌-◌, ◌≤◌, ◌<◌, arith, ◌≡◌, refl, ap, ◌∙◌, List, set}
 use Rattle.base.specs.Rows.{at}
 use Rattle.base.specs.Sums.{sum_to}
 use Rattle.base.proofs.SumLaws.{sum_start, sum_step, sum_cap, sum_add, sum_same}
@@ -8,19 +8,11 @@ use Rattle.rows.proofs.FillLaws.{Filled, filled_start, filled_step}
 use Rattle.shares.specs.declared.Whole.{Whole}
 use Rattle.risen.specs.Risen.{more_of, Addable, Added}
 
--- by the tests that lead to it
-module _ (v most growth r : ℕ) where
-  pub more_none : v ≡ 0 → r ≡ 0 → r ≡ more_of v most growth
-  unfolding more_of
-  more_none e x = rw e x
-
-  pub more_some : (v ≡ 0 → ⊥) → r ≡ most - v - growth → r ≡ more_of v most growth
-  unfolding more_of
-  more_some some x = go v some x
-    where
-      go : (v : ℕ) → (v ≡ 0 → ⊥) → r ≡ most - v - growth → r ≡ more_of v most growth
-      go zero some x = absurd (some refl)
-      go (suc v) some x = x
+-- where a number is kept
+pub more_some : (v most growth : ℕ) → (v ≡ 0 → ⊥) → more_of v most growth ≡ most - v - growth
+unfolding more_of
+more_some zero most growth some = absurd (some refl)
+more_some (suc v) most growth some = refl
 
 -- the growth with what it is raised by is the larger of two small numbers
 pub more_small : (v most growth : ℕ) → most ≤ 1000000 → growth ≤ 1000000
@@ -36,7 +28,6 @@ raise most kept row i = more_of (at kept i) (at most i) (at row i)
 -- what the loop knows after i places
 pub record Adding (most kept : List ℕ) (n : ℕ) (before : Whole) (row xs : List ℕ) (sum all i : ℕ) : Type 0
   where
-    pub within : i ≤ n
     pub filled : Filled (λ j. raise most kept row j + at row j) row xs i
     pub summed : sum ≡ before.sum + sum_to (at kept) i
     pub raised : all ≡ before.all + sum_to (raise most kept row) i
@@ -49,7 +40,6 @@ module _ {most kept : List ℕ} {n : ℕ} {before : Whole} {row : List ℕ} (ok 
 
     pub adding_start : Adding most kept n before row row before.sum before.all 0
     adding_start = record {
-      within = omega arith;
       filled = filled_start _ row ok.ok.size;
       summed = omega (arith, sum_start (at kept));
       raised = omega (arith, sum_start (raise most kept row));
@@ -60,7 +50,7 @@ module _ {most kept : List ℕ} {n : ℕ} {before : Whole} {row : List ℕ} (ok 
         here : v ≡ raise most kept row i
         here = is ∙ ap (more_of (at kept i) (at most i)) (a.filled.rest i (omega arith))
 
-        pub adding_fits : (v + at xs i ≤ 1000000) × (sum + at kept i ≤ 64000000) × (all + v ≤ 64000000)
+        pub adding_fits : (at xs i + v ≤ 1000000) × (sum + at kept i ≤ 64000000) × (all + v ≤ 64000000)
         adding_fits = (
           omega (arith, here, a.filled.rest i (omega arith), small i lt),
           omega (
@@ -83,13 +73,12 @@ module _ {most kept : List ℕ} {n : ℕ} {before : Whole} {row : List ℕ} (ok 
           ),
         )
 
-        pub adding_step : Adding most kept n before row (set xs i (v + at xs i)) (sum + at kept i) (all + v)
+        pub adding_step : Adding most kept n before row (set xs i (at xs i + v)) (sum + at kept i) (all + v)
             (i + 1)
         adding_step = record {
-          within = omega arith;
           filled =
               filled_step a.filled (omega (arith, ok.ok.few))
-              (ap₂ ◌+◌ here (a.filled.rest i (omega arith)));
+              (omega (arith, here, a.filled.rest i (omega arith)));
           summed = omega (arith, a.summed, sum_step (at kept) {s = sum_to (at kept) i} refl refl);
           raised =
               omega (
@@ -99,21 +88,19 @@ module _ {most kept : List ℕ} {n : ℕ} {before : Whole} {row : List ℕ} (ok 
               );
         }
 
-      pub adding_end : n ≤ i → Added most kept n before row (record { sum = sum; all = all }) xs
-      adding_end out =
-          let e : i ≡ n = omega (arith, a.within) in
-          record {
-            size = a.filled.size;
-            sum = a.summed ∙ ap (λ j. before.sum + sum_to (at kept) j) e;
-            all =
-                omega (
-                  arith,
-                  a.raised,
-                  ap (sum_to (raise most kept row)) e,
-                  ok.ok.all,
-                  sum_add (raise most kept row) (at row) n,
-                  sum_same (at xs) (λ j. raise most kept row j + at row j) n
-                      (λ j lt. a.filled.done j (omega arith)),
-                );
-            growth = λ j lt. a.filled.done j (omega arith);
-          }
+      pub adding_end : i ≡ n → Added most kept n before row (record { sum = sum; all = all }) xs
+      adding_end e = record {
+        size = a.filled.size;
+        sum = a.summed ∙ ap (λ j. before.sum + sum_to (at kept) j) e;
+        all =
+            omega (
+              arith,
+              a.raised,
+              ap (sum_to (raise most kept row)) e,
+              ok.ok.all,
+              sum_add (raise most kept row) (at row) n,
+              sum_same (at xs) (λ j. raise most kept row j + at row j) n
+                  (λ j lt. a.filled.done j (omega arith)),
+            );
+        growth = λ j lt. a.filled.done j (omega arith);
+      }

@@ -11,15 +11,13 @@ ghost use Rattle.risen.specs.Risen.{risen_at, more_of, Addable, Added, Risable, 
 use shares::Whole;
 
 // What each place puts up at q.
-fn risen_row<'a>(most: &'a [u32; 32], wait: &'a [u32; 32], n: usize, q: u32, x: &'a mut [u32; 32])
+fn risen_row(most: &[u32; 32], wait: &[u32; 32], n: usize, q: u32, x: &mut [u32; 32])
     requires { (n ≤ 32) × (length x.old ≡ 32) }
     ensures { (i : ℕ) → i < n
         → at x.new i ≡ risen_at most.now wait.now q i }
 {
-    let mut i: usize = 0;
-    while i < n {
-        x[i] = numbers::least_of(most[i], numbers::past(q, wait[i]));
-        i += 1;
+    for i in 0..n {
+        x[i] = most[i].min(q.saturating_sub(wait[i]));
     }
 }
 
@@ -30,43 +28,40 @@ fn more_of(kept: u32, most: u32, growth: u32) -> u32
     if kept == 0 {
         return 0;
     }
-    numbers::past(numbers::past(most, kept), growth)
+    most.saturating_sub(kept).saturating_sub(growth)
 }
 
 // Adds what is kept to the sum, and raises the growths.
-fn add_kept<'a>(
-    most: &'a [u32; 32],
-    kept: &'a [u32; 32],
+fn add_kept(
+    most: &[u32; 32],
+    kept: &[u32; 32],
     n: usize,
     before: Whole,
-    row: &'a mut [u32; 32],
+    row: &mut [u32; 32],
 ) -> Whole
     requires { Addable most.now kept.now n before row.old }
     ensures { Added most.now kept.now n before row.old result
         row.new }
 {
-    let mut sum = before.sum;
-    let mut all = before.all;
-    let mut i: usize = 0;
-    while i < n {
+    let Whole { mut sum, mut all } = before;
+    for i in 0..n {
         let more = more_of(kept[i], most[i], row[i]);
-        row[i] = more + row[i];
+        row[i] += more;
         sum += kept[i];
         all += more;
-        i += 1;
     }
-    Whole { sum: sum, all: all }
+    Whole { sum, all }
 }
 
 // Adds the m largest at q to a sum, and raises the growths of the places that they stand at.
-pub fn add_risen<'a>(
-    most: &'a [u32; 32],
-    wait: &'a [u32; 32],
+pub fn add_risen(
+    most: &[u32; 32],
+    wait: &[u32; 32],
     n: usize,
     m: u32,
     q: u32,
     before: Whole,
-    row: &'a mut [u32; 32],
+    row: &mut [u32; 32],
 ) -> Whole
     requires { Risable most.now n before row.old }
     ensures { Risen most.now wait.now n m q before row.old result

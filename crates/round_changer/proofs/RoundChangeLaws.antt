@@ -1,7 +1,7 @@
 -- The stages of the table as changed under edition 2, over plain values. Assumes nothing.
-use Rattle.std.proofs.Common.{ℕ, ◌≡◌, refl, subst, ◌∙◌, List}
+use Rattle.std.proofs.Common.{ℕ, ◌≡◌, refl, subst, ◌∙◌, List, Ok, Err}
 use Rattle.table.specs.declared.Refusal.{Refusal}
-use Rattle.table.specs.declared.Checked.TheVariants.{Fine, Refused as Faulty}
+use Rattle.planner.specs.Answers.{stop}
 use Rattle.lines.specs.Reads.{read_of}
 use Rattle.lines.specs.declared.Reading.{Reading}
 use Rattle.planner.specs.declared.Job.TheVariants.{Force}
@@ -9,9 +9,7 @@ use Rattle.edition_2.specs.declared.Rounded.{Rounded}
 use Rattle.edition_2.specs.Second.{legal_second}
 use Rattle.editions.specs.Editions.{plan_second}
 use Rattle.editions.proofs.StageLaws.{second_enough, plan_fine, plan_faulty}
-use Rattle.changer.specs.declared.Changed.{Changed}
-use Rattle.changer.specs.declared.Changed.TheVariants.{Refused}
-use Rattle.changer.specs.Changed.{Changes, with_flags, sent_table, flags_in}
+use Rattle.changer.specs.Changed.{Changed, Changes, with_flags, sent_table, flags_in}
 use Rattle.changer.proofs.ChangeLaws.{text_legal}
 use Rattle.round_changer.specs.RoundChanged.{ChangedAs2}
 
@@ -20,7 +18,7 @@ module _ (text : List ℕ) {r : Reading} (e : r ≡ read_of text) where
   abbrev By : Rounded → List ℕ → ℕ → Changed → List ℕ → Type 0
   By d old at x new = Changes d.done.answer (with_flags (sent_table text) (flags_in d.done)) old at x new
 
-  pub text_forced : {d : Rounded} {old : List ℕ} {at : ℕ} {x : Changed} {new : List ℕ} → r.answer ≡ Fine
+  pub text_forced : {d : Rounded} {old : List ℕ} {at : ℕ} {x : Changed} {new : List ℕ} → r.answer ≡ Ok tt
       → d ≡ legal_second r.table Force
       → Changes d.done.answer (with_flags r.table (flags_in d.done)) old at x new
       → ChangedAs2 text old at x new
@@ -34,8 +32,8 @@ module _ (text : List ℕ) {r : Reading} (e : r ≡ read_of text) where
       (subst (λ (y : Reading).
       Changes d.done.answer (with_flags y.table (flags_in d.done)) old at x new) e c)
 
-  pub text_faulty : {why : Refusal} {old : List ℕ} {at : ℕ} → r.answer ≡ Faulty why
-      → ChangedAs2 text old at (Refused why 0) old
+  pub text_faulty : {why : Refusal} {old : List ℕ} {at : ℕ} → r.answer ≡ Err why
+      → ChangedAs2 text old at (Err (stop why 0)) old
   text_faulty {why} {old} {at} fault =
-      subst (λ y. By y old at (Refused why 0) old) (plan_faulty text e Force 32 fault)
+      subst (λ y. By y old at (Err (stop why 0)) old) (plan_faulty text e Force 32 fault)
       (record { answer = refl; bytes = refl })

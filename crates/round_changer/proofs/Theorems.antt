@@ -9,8 +9,7 @@ use Rattle.planner.specs.declared.Job.TheVariants.{Force}
 use Rattle.planner.specs.Done.{roomed, unless_faulty}
 use Rattle.edition_2.specs.Second.{done_second, last_rounds, rounded}
 use Rattle.editions.specs.Editions.{plan_second}
-use Rattle.changer.specs.declared.Changed.{Changed}
-use Rattle.changer.specs.Changed.{Changes, with_flags, flags_in}
+use Rattle.changer.specs.Changed.{Changed, Changes, with_flags, flags_in}
 use Rattle.round_changer.specs.RoundChanged.{ChangedAs2}
 
 pub changed_2_raised : (text old : List ℕ) (at : ℕ) (r : Changed) (new : List ℕ)

@@ -10,8 +10,7 @@ use Rattle.std.specs.Prelude.{ℕ, List}
 use Rattle.planner.specs.declared.Done.{Done}
 use Rattle.planner.specs.declared.Job.TheVariants.{Force}
 use Rattle.editions.specs.Editions.{plan_second}
-use Rattle.changer.specs.declared.Changed.{Changed}
-use Rattle.changer.specs.Changed.{Changes, with_flags, sent_table, flags_in}
+use Rattle.changer.specs.Changed.{Changed, Changes, with_flags, sent_table, flags_in}
 
 -- 32 records are room for every table
 abbrev pub forced2 : List ℕ → Done

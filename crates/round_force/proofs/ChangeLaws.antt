@@ -1,15 +1,16 @@
 -- What a test that fails makes of the flags, as they are held: the mathematics' change.
 -- Assumes nothing.
-use Rattle.std.proofs.Common.{ℕ, zero, suc, ◌-◌, ◌≤◌, ◌<◌, arith, eq-zero-or-pos, ◌≡◌, refl, sym, ap, ap₂}
+use Rattle.std.proofs.Common.{ℕ, zero, suc, ◌+◌, ◌-◌, ◌≤◌, ◌<◌, arith, eq-zero-or-pos, ◌≡◌, refl, sym, ap}
 use Rattle.std.proofs.Common.{◌∙◌, Bool, true, false, ⊎_elim, List, set, replicate, get_or-set_same}
-use Rattle.std.proofs.Common.{get_or-set_other, eqb, ltb, eqb-true, lt-ltb, le-ltb}
+use Rattle.std.proofs.Common.{get_or-set_other, eqb, ltb, eqb-true}
+use Rattle.std.proofs.Common.{ap₂, Option, Some, None, MatchOption}
 use Rattle.std.proofs.Math.ListN.{length-replicate, get_or-replicate}
 use borrow.Author.Tests.{eqb-false}
 use Rattle.base.specs.Choice.{pick, or_else}
 use Rattle.base.specs.Sums.{sum_to}
 use Rattle.base.specs.Rows.{at}
 use Rattle.base.proofs.SumLaws.{sum_same}
-use Rattle.base.proofs.FirstLaws.{first_same, first_small}
+use Rattle.base.proofs.FirstLaws.{first_none, first_same, first_small, find_here}
 use Rattle.base.proofs.RowLaws.{list_at}
 use Rattle.model.specs.Bound.{System}
 use Rattle.model.specs.Forcing.{lacks, lacking}
@@ -24,22 +25,22 @@ use Rattle.round_test.specs.Round.{flag_list}
 use Rattle.round_force.specs.Forced2.{first_in, alone, to_force}
 
 -- one task alone
-pub alone_held : {n place : ℕ} → n ≤ 32 → 1 ≤ place → place ≤ n
-    → held (at (set (replicate 32 1) (place - 1) 0)) n ≡ alone n place
+pub alone_held : {n place : ℕ} → n ≤ 32 → place < n
+    → held (at (set (replicate 32 1) place 0)) n ≡ alone n (place + 1)
 unfolding alone
-alone_held {n} {place} small low high = held_same _ _ n small each
+alone_held {n} {place} small inside = held_same _ _ n small each
   where
-    each : (i : ℕ) → i < n → at (set (replicate 32 1) (place - 1) 0) i ≡ pick (eqb (suc i) place) 0 1
-    each i lt = go (eqb (suc i) place) refl
+    each : (i : ℕ) → i < n → at (set (replicate 32 1) place 0) i ≡ pick (eqb (suc i) (place + 1)) 0 1
+    each i lt = go (eqb (suc i) (place + 1)) refl
       where
-        go : (t : Bool) → eqb (suc i) place ≡ t → at (set (replicate 32 1) (place - 1) 0) i ≡ pick t 0 1
+        go : (t : Bool) → eqb (suc i) (place + 1) ≡ t → at (set (replicate 32 1) place 0) i ≡ pick t 0 1
         go true e =
-            let here : i ≡ place - 1 = omega (arith, eqb-true (suc i) place e) in
-            ap (at (set (replicate 32 1) (place - 1) 0)) here
-            ∙ get_or-set_same (replicate 32 1) (place - 1) 0 0 (omega (arith, length-replicate {A = ℕ} 32 1))
+            ap (at (set (replicate 32 1) place 0))
+            (let here : i ≡ place = omega (arith, eqb-true (suc i) (place + 1) e) in here)
+            ∙ get_or-set_same (replicate 32 1) place 0 0 (omega (arith, length-replicate {A = ℕ} 32 1))
         go false e =
-            get_or-set_other (replicate 32 1) (place - 1) i 0 0
-            (λ here. eqb-false (suc i) place e (omega arith))
+            get_or-set_other (replicate 32 1) place i 0 0
+            (λ here. eqb-false (suc i) (place + 1) e (omega arith))
             ∙ get_or-replicate {A = ℕ} 32 i 1 0 (omega arith)
 
 -- which are forced, each way
@@ -58,15 +59,18 @@ module _ (n : ℕ) (flags failing : Flags) (first : ℕ) {last : ℕ}
         go zero ne = absurd (ne refl)
         go (suc x) ne = refl
 
--- a preemptive task, and one that is not, by the flag that is read
-pub flag_some : {x y : ℕ} → x ≡ y → (x ≡ 0 → ⊥) → ltb 0 y ≡ true
-flag_some {x} {y} e some = lt-ltb 0 y (omega arith)
+-- the lowest-numbered preemptive task, as it is found or not
+pub first_found : (n : ℕ) (flags : Flags) (r : Option ℕ)
+    → MatchOption r ((k : ℕ) → 0 ≤ k → k < n → ltb 0 (flag_in flags k) ≡ false)
+    (λ i. (0 ≤ i) × (i < n) × (ltb 0 (flag_in flags i) ≡ true)
+    × ((k : ℕ) → 0 ≤ k → k < i → ltb 0 (flag_in flags k) ≡ false))
+    → MatchOption r (first_in n flags ≡ 0) (λ k. first_in n flags ≡ k + 1)
+unfolding first_in
+first_found n flags None none = first_none _ (λ k lt. none k (omega arith) lt)
+first_found n flags (Some i) some =
+    sym (find_here _ (λ k lt. some.3 k (omega arith) lt) some.1 some.2)
 
-pub flag_none : {x y : ℕ} → x ≡ y → x ≡ 0 → ltb 0 y ≡ false
-flag_none {x} {y} e none = le-ltb 0 y (omega arith)
-
--- the lowest-numbered preemptive task
-pub first_within : (n : ℕ) (flags : Flags) {first : ℕ} → first ≡ first_in n flags → first ≤ n
+pub first_within : (n : ℕ) (flags : Flags) {k : ℕ} → first_in n flags ≡ k + 1 → k < n
 unfolding first_in
 first_within n flags e = omega (arith, first_small (λ k. ltb 0 (flag_in flags k)) n)
 

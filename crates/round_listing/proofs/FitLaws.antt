@@ -1,6 +1,6 @@
 -- The listings of a legal table under edition 2 fit in 2,048 bytes: those of edition 1's words in 1,920, and
 -- 17 more for the rounds, of which there are at most 31,999,969. Assumes nothing.
-use Rattle.std.proofs.Common.{ℕ, ◌≤◌, ◌<◌, arith, ◌≡◌, List, length}
+use Rattle.std.proofs.Common.{ℕ, ◌≤◌, ◌<◌, arith, ◌≡◌, List, length, Ok, Err}
 use Rattle.base.specs.Rows.{at}
 use Rattle.base.proofs.SumLaws.{sum_cap}
 use Rattle.model.specs.Bound.{Legal, under}
@@ -10,8 +10,7 @@ use Rattle.rounds.proofs.TestLaws.{last_at, rounds_small}
 use Rattle.rounds.proofs.ForcingLaws.{force2_passes, force2_last}
 use Rattle.table.specs.Table.{system_of, flags_of, LegalTable}
 use Rattle.table.specs.declared.Table.{Table}
-use Rattle.planner.specs.declared.Answer.{Answer}
-use Rattle.planner.specs.declared.Answer.TheVariants.{Given, Refused}
+use Rattle.planner.specs.Answers.{Answer}
 use Rattle.planner.specs.declared.Job.TheVariants.{Test, Force}
 use Rattle.planner.specs.Done.{sent}
 use Rattle.planner.proofs.StageLaws.{flagged}
@@ -33,9 +32,9 @@ eight n h = decimal_short n 7 h
 -- what gains the rounds fits
 gained_fits : (a : Answer) (w : List ℕ) (rounds : ℕ) → length w ≤ 1920 → rounds ≤ 31999969
     → length (gained_by a w (rounds_in a rounds)) ≤ listing_room
-gained_fits (Given v) w rounds long few =
+gained_fits (Ok v) w rounds long few =
     omega (arith, gaining_length w rounds, rounds_length rounds, eight rounds (omega arith))
-gained_fits (Refused why passes) w rounds long few = omega arith
+gained_fits (Err s) w rounds long few = omega arith
 
 module _ {t : Table} (legal : LegalTable t) where
   system : Legal (system_of t)

@@ -1,16 +1,14 @@
 -- A text whose last line gains the round count: its length, and how it is written over the 0A that ended it.
 -- Assumes nothing.
 use Rattle.std.proofs.Common.{ℕ, ◌+◌, ◌-◌, ◌≤◌, ◌<◌, arith, ◌≡◌, ap, ◌∙◌, List, ◌++◌, append_assoc}
-use Rattle.std.proofs.Common.{append-nil, length, take, drop, length-append, length-take-le, drop-drop}
+use Rattle.std.proofs.Common.{append-nil, length, take, drop, length-append, length-take-le, drop-drop, Ok}
 use Rattle.std.proofs.Math.Seq.{take-append-le, drop-append-add}
 use Rattle.page.specs.Decimal.{decimal}
 use Rattle.page.specs.Words.{word, field}
 use Rattle.buffer.specs.Put.{Put}
 use Rattle.buffer.proofs.PutLaws.{put_start, put_length}
-use Rattle.table.specs.declared.Refusal.{Refusal}
 use Rattle.table.specs.declared.Table.{Table}
-use Rattle.planner.specs.declared.Answer.{Answer}
-use Rattle.planner.specs.declared.Answer.TheVariants.{Given, Refused}
+use Rattle.planner.specs.Answers.{Answer}
 use Rattle.planner.specs.declared.Verdict.{Verdict}
 use Rattle.planner.specs.declared.Record.{Record}
 use Rattle.listing.specs.Listing.{answer_text}
@@ -41,7 +39,7 @@ unfolding gaining
 gaining_parts w r d = append_assoc (take (length w - 1) w) (rounds_end r) d
 
 -- a text that ends in a line has a byte
-pub some_listed : (t : Table) (rs : List Record) (a : Answer) {v : Verdict} → a ≡ Given v
+pub some_listed : (t : Table) (rs : List Record) (a : Answer) {v : Verdict} → a ≡ Ok v
     → 0 < length (answer_text t rs a)
 some_listed t rs a {v} e =
     rw e
@@ -51,7 +49,7 @@ some_listed t rs a {v} e =
       last_length (total_load t) v.forced v.passes,
     ))
 
-pub some_tested : (t : Table) (rs : List Record) (a : Answer) {v : Verdict} → a ≡ Given v
+pub some_tested : (t : Table) (rs : List Record) (a : Answer) {v : Verdict} → a ≡ Ok v
     → 0 < length (test_by t rs a)
 some_tested t rs a {v} e =
     rw e
@@ -97,7 +95,7 @@ module _ {s w s' : List ℕ} {end : ℕ} (p : Put s 0 w end s') (some : 0 < leng
           q.bytes
           ∙ cc (kept, rest, further, gaining_parts w rounds (drop end' s))
 
-  module _ {a : Answer} {v : Verdict} (says : a ≡ Given v) where
+  module _ {a : Answer} {v : Verdict} (says : a ≡ Ok v) where
     pub gain_ready : length (gained_by a w rounds) ≤ length s
         → (0 < end) × (end - 1 + length (rounds_end rounds) ≤ length s')
     gain_ready fits =
@@ -109,7 +107,3 @@ module _ {s w s' : List ℕ} {end : ℕ} (p : Put s 0 w end s') (some : 0 < leng
     pub gained_put : {r : ℕ} {s'' : List ℕ} → Put s' (end - 1) (rounds_end rounds) r s''
         → Put s 0 (gained_by a w rounds) r s''
     gained_put q = rw says (over q)
-
-pub gained_none : (rounds : ℕ) {s w s' : List ℕ} {end : ℕ} {a : Answer} {why : Refusal} {passes : ℕ}
-    → a ≡ Refused why passes → Put s 0 w end s' → Put s 0 (gained_by a w rounds) end s'
-gained_none rounds says p = rw says p

@@ -1,7 +1,6 @@
 -- The ways through the writing of a listing under edition 2: which text each answer has. Assumes nothing.
-use Rattle.std.proofs.Common.{ℕ, ◌≡◌, ◌∙◌, List}
+use Rattle.std.proofs.Common.{ℕ, ◌≡◌, ◌∙◌, List, Ok, Err}
 use Rattle.table.specs.declared.Refusal.{Refusal}
-use Rattle.table.specs.declared.Checked.TheVariants.{Fine, Refused as Faulty}
 use Rattle.lines.specs.Reads.{read_of}
 use Rattle.lines.specs.declared.Reading.{Reading}
 use Rattle.planner.specs.declared.Job.{Job}
@@ -16,22 +15,22 @@ use Rattle.round_listing.specs.RoundListing.{forced_text, tested_text, listing_o
 
 -- in the code's words: r is what was read, d what its table is answered
 module _ (text : List ℕ) {r : Reading} (re : r ≡ read_of text) where
-  answered : (job : Job) {d : Rounded} → r.answer ≡ Fine → d ≡ legal_second r.table job
+  answered : (job : Job) {d : Rounded} → r.answer ≡ Ok tt → d ≡ legal_second r.table job
       → d ≡ plan_second text job 32
   answered job fine de =
       de ∙ second_enough r.table job 32 (read_table text re fine).count ∙ plan_fine text re job 32 fine
 
-  pub listing_done : {d : Rounded} → r.answer ≡ Fine → d ≡ legal_second r.table Force
+  pub listing_done : {d : Rounded} → r.answer ≡ Ok tt → d ≡ legal_second r.table Force
       → forced_text r.table d ≡ listing_of2 text
   unfolding listing_of2
   listing_done fine de = rw (← answered Force fine de, ← re)
 
-  pub test_done_lem : {d : Rounded} → r.answer ≡ Fine → d ≡ legal_second r.table Test
+  pub test_done_lem : {d : Rounded} → r.answer ≡ Ok tt → d ≡ legal_second r.table Test
       → tested_text r.table d ≡ test_of2 text
   unfolding test_of2
   test_done_lem fine de = rw (← answered Test fine de, ← re)
 
-  module _ {why : Refusal} (fault : r.answer ≡ Faulty why) where
+  module _ {why : Refusal} (fault : r.answer ≡ Err why) where
     pub listing_faulty : refusal_line why.number why.place 0 ≡ listing_of2 text
     unfolding listing_of2
     listing_faulty = rw (← plan_faulty text re Force 32 fault)

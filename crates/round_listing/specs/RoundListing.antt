@@ -6,14 +6,13 @@
 --   the listing after forcing, and that of the test         listing_of2 text, test_of2 text
 --
 -- Assumes nothing.
-use Rattle.std.specs.Prelude.{ℕ, ◌-◌, ◌≤◌, List, [], ◌∷◌, ◌++◌, length, take}
+use Rattle.std.specs.Prelude.{ℕ, ◌-◌, ◌≤◌, List, [], ◌∷◌, ◌++◌, length, take, Ok, Err}
 use Rattle.page.specs.Decimal.{decimal}
 use Rattle.page.specs.Words.{word, line}
 use Rattle.table.specs.declared.Table.{Table}
 use Rattle.table.specs.Table.{LegalTable}
 use Rattle.lines.specs.Reads.{read_of}
-use Rattle.planner.specs.declared.Answer.{Answer}
-use Rattle.planner.specs.declared.Answer.TheVariants.{Given, Refused}
+use Rattle.planner.specs.Answers.{Answer}
 use Rattle.planner.specs.declared.Job.TheVariants.{Test, Force}
 use Rattle.edition_2.specs.declared.Rounded.{Rounded}
 use Rattle.editions.specs.Editions.{plan_second}
@@ -29,8 +28,8 @@ unfoldable pub gaining : List ℕ → ℕ → List ℕ
 gaining w rounds = take (length w - 1) w ++ rounds_end rounds
 
 abbrev pub gained_by : Answer → List ℕ → ℕ → List ℕ
-gained_by (Given v) w rounds = gaining w rounds
-gained_by (Refused why passes) w rounds = w
+gained_by (Ok v) w rounds = gaining w rounds
+gained_by (Err s) w rounds = w
 
 -- what is listed of a table after forcing, and by the test
 abbrev pub forced_text : Table → Rounded → List ℕ

@@ -10,8 +10,8 @@ ghost use Rattle.round_listing.specs.RoundListing.{rounds_end, Ready, forced_tex
 ghost use Rattle.round_listing.specs.RoundListing.{listing_of2, test_of2};
 
 use edition_2::Rounded;
-use planner::{Answer, Job};
-use table::{Checked, Table};
+use planner::Job;
+use table::Table;
 
 // The round count, in place of the 0A that stands before the place `end`; the line ends after it.
 fn put_rounds(out: &mut [u8], end: usize, rounds: u32) -> usize
@@ -28,12 +28,10 @@ fn put_forced(out: &mut [u8], t: Table, d: Rounded) -> usize
         out.old }
     ensures { Put out.old 0 (forced_text t d) result out.new }
 {
-    let done = d.done;
-    let said = done.answer;
-    let end = listing::put_done(out, t, done);
-    match said {
-        Answer::Given(_) => put_rounds(out, end, d.rounds),
-        Answer::Refused { why: _, passes: _ } => end,
+    let end = listing::put_done(out, t, d.done);
+    match d.done.answer {
+        Ok(_) => put_rounds(out, end, d.rounds),
+        Err(_) => end,
     }
 }
 
@@ -43,12 +41,10 @@ fn put_tested(out: &mut [u8], t: Table, d: Rounded) -> usize
         out.old }
     ensures { Put out.old 0 (tested_text t d) result out.new }
 {
-    let done = d.done;
-    let said = done.answer;
-    let end = test_listing::put_done(out, t, done);
-    match said {
-        Answer::Given(_) => put_rounds(out, end, d.rounds),
-        Answer::Refused { why: _, passes: _ } => end,
+    let end = test_listing::put_done(out, t, d.done);
+    match d.done.answer {
+        Ok(_) => put_rounds(out, end, d.rounds),
+        Err(_) => end,
     }
 }
 
@@ -60,11 +56,10 @@ pub fn write_listing_2(text: &[u8], out: &mut [u8]) -> usize
         return 0;
     }
     let reading = reader::read_plan(text);
-    let found = reading.answer;
     let table = reading.table;
-    match found {
-        Checked::Fine => { put_forced(out, table, edition_2::legal_second(table, Job::Force)) }
-        Checked::Refused(why) => refusal_line::put_refusal(out, 0, why.number, why.place, 0),
+    match reading.answer {
+        Ok(()) => { put_forced(out, table, edition_2::legal_second(table, Job::Force)) }
+        Err(why) => refusal_line::put_refusal(out, 0, why.number, why.place, 0),
     }
 }
 
@@ -76,10 +71,9 @@ pub fn write_test_2(text: &[u8], out: &mut [u8]) -> usize
         return 0;
     }
     let reading = reader::read_plan(text);
-    let found = reading.answer;
     let table = reading.table;
-    match found {
-        Checked::Fine => { put_tested(out, table, edition_2::legal_second(table, Job::Test)) }
-        Checked::Refused(why) => refusal_line::put_refusal(out, 0, why.number, why.place, 0),
+    match reading.answer {
+        Ok(()) => { put_tested(out, table, edition_2::legal_second(table, Job::Test)) }
+        Err(why) => refusal_line::put_refusal(out, 0, why.number, why.place, 0),
     }
 }

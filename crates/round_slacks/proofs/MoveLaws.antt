@@ -1,7 +1,9 @@
 -- The loops of one round: a row that is filled again, and the slacks that are moved in place.
 -- Assumes nothing.
 use Rattle.std.proofs.Common.{ℕ, zero, suc, ◌+◌, ◌-◌, ◌≤◌, ◌<◌, arith, ◌≡◌, refl, sym, ap, ap₂, ◌∙◌, List}
-use Rattle.std.proofs.Common.{length, set, replicate}
+use Rattle.std.proofs.Common.{◌++◌, length, set, take, drop, replicate, length-append, length-drop}
+use Rattle.std.proofs.Math.ListN.{get_or-append, get_or-replicate, length-replicate}
+use Rattle.std.proofs.lemmas.List.{length-take-le, get_or-take, get_or-drop, get_or-append_right}
 use Rattle.base.specs.Rows.{at, row}
 use Rattle.base.proofs.OrderLaws.{below_next}
 use Rattle.base.proofs.RowLaws.{row_length, row_at, row_past, row_is, row_same, fill_start}
@@ -42,6 +44,20 @@ filled_stays {f} {old} {xs} {i} a e = record {
   done = below_next (λ j. at xs j ≡ f j) i a.done e;
   rest = λ j le. a.rest j (omega arith);
 }
+
+-- the front of a row, before zeros
+pub front_row : (xs : List ℕ) {front : List ℕ} {n : ℕ} → n ≤ 32 → length xs ≡ 32 → front ≡ take n xs
+    → front ++ drop n (replicate 32 0) ≡ row 0 (at xs) n
+front_row xs {front} {n} small long e =
+    let size : length front ≡ n = ap length e ∙ length-take-le n xs (omega arith) in
+    row_is 0 (at xs) n (front ++ drop n (replicate 32 0))
+    (simp (length-append, length-drop, length-replicate) (omega arith))
+    (λ j lt s.
+    get_or-append front _ 0 j (omega arith) ∙ ap (λ l. at l j) e ∙ get_or-take n xs j 0 lt)
+    (λ j le s.
+    get_or-append_right front _ n j 0 size le
+    ∙ get_or-drop n (replicate 32 0) (j - n) 0
+    ∙ get_or-replicate {A = ℕ} 32 (n + (j - n)) 0 0 (omega arith))
 
 -- a slack after a round, each way
 pub slack_kept : (d x b : ℕ) → b ≡ 0 → x ≡ slack_after d x b

@@ -15,6 +15,7 @@ fn slack_after(deadline: u32, slack: u32, bound: u32) -> u32
 }
 
 // The number of the one task whose slack changed, 0 for none and 33 where more did: after task k as well.
+// Numbers and no enum: `move_slacks` gives one out, and its clause `Moved` says it as a number.
 fn only_after(only: usize, change: u32, k: usize) -> usize
     requires { k < 32 }
     ensures { result ≡ only_after only change k }
@@ -26,13 +27,13 @@ fn only_after(only: usize, change: u32, k: usize) -> usize
 }
 
 // The slacks after a round, and which of them changed, as `only_after` says it.
-pub fn move_slacks<'a>(
+pub fn move_slacks(
     n: usize,
-    cost: &'a [u32; 32],
-    reach: &'a [u32; 32],
-    bounds: &'a [u32; 32],
-    slacks: &'a mut [u32; 32],
-    near: &'a mut [u32; 32],
+    cost: &[u32; 32],
+    reach: &[u32; 32],
+    bounds: &[u32; 32],
+    slacks: &mut [u32; 32],
+    near: &mut [u32; 32],
 ) -> usize
     requires { (n ≤ 32) × (FitRows n cost.now reach.now bounds.now slacks.old)
         × (Ends n slacks.old) × (Ends n near.old) }
@@ -40,14 +41,12 @@ pub fn move_slacks<'a>(
         slacks.old slacks.new near.new result }
 {
     let mut moved: usize = 0;
-    let mut k: usize = 0;
-    while k < n {
+    for k in 0..n {
         let before = slacks[k];
         let after = slack_after(reach[k] + cost[k], before, bounds[k]);
         slacks[k] = after;
         near[k] = reach[k] - after;
         moved = only_after(moved, flags::change(before, after), k);
-        k += 1;
     }
     moved
 }
@@ -58,10 +57,6 @@ pub fn start_near(n: usize, reach: &[u32; 32]) -> [u32; 32]
     ensures { result ≡ row 0 (at reach.now) n }
 {
     let mut near = [0u32; 32];
-    let mut k: usize = 0;
-    while k < n {
-        near[k] = reach[k];
-        k += 1;
-    }
+    near[..n].copy_from_slice(&reach[..n]);
     near
 }

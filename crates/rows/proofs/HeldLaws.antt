@@ -1,7 +1,7 @@
 -- The rows of a legal table are legal, and the system that they hold gives each task the bound that the
 -- table's does.
 -- Assumes nothing.
-use Rattle.std.proofs.Common.{ℕ, ◌+◌, ◌<◌, arith, ◌≡◌, refl, sym, ap, ◌∙◌, List, inr, set, replicate}
+use Rattle.std.proofs.Common.{ℕ, ◌+◌, ◌<◌, arith, ◌≡◌, refl, sym, ap, ◌∙◌, List, inr, replicate}
 use Rattle.base.specs.Rows.{at, row}
 use Rattle.base.proofs.RowLaws.{row_at, fill_start, fill_step}
 use Rattle.base.proofs.LeastLaws.{no_worse_both}
@@ -9,7 +9,6 @@ use Rattle.model.specs.Bound.{Legal, under, bound}
 use Rattle.model.proofs.PlaceLaws.{Places, Within, left_out}
 use Rattle.table.specs.declared.Table.{Table}
 use Rattle.table.specs.Table.{task_at, level_at, policy_of, system_of, LegalTable}
-use Rattle.window.specs.Window.{inverse_of}
 use Rattle.rows.specs.declared.Head.{Head}
 use Rattle.rows.specs.declared.Levels.{Levels}
 use Rattle.rows.specs.Levels.{level_in, with_level, higher_at, LevelsTo}
@@ -23,17 +22,6 @@ fill_none {t} e = record {
   rest = e.rest ∙ fill_start 0 (rest_of_task t);
   cost = e.cost ∙ fill_start 0 (cost_of_task t);
   reach = e.reach ∙ fill_start 0 (reach_of_task t);
-}
-
-pub fill_more : {t : Table} {inverse rest cost reach : List ℕ} {i v : ℕ} → i < 32
-    → RowsTo t inverse rest cost reach i → v ≡ inverse_of_task t i
-    → RowsTo t (set inverse i v) (set rest i (rest_of_task t i)) (set cost i (cost_of_task t i))
-    (set reach i (reach_of_task t i)) (i + 1)
-fill_more {t} small a e = record {
-  inverse = fill_step 0 (inverse_of_task t) small a.inverse e;
-  rest = fill_step 0 (rest_of_task t) small a.rest refl;
-  cost = fill_step 0 (cost_of_task t) small a.cost refl;
-  reach = fill_step 0 (reach_of_task t) small a.reach refl;
 }
 
 pub fill_all : {t : Table} {inverse rest cost reach : List ℕ} {i n : ℕ} → RowsTo t inverse rest cost reach i
@@ -85,25 +73,6 @@ module _ {t : Table} {inverse rest cost reach : List ℕ} {h : Head} (legal : Le
     pub rows_deadline : (i : ℕ) → i < t.n → at reach i + at cost i ≡ (task_at t.tasks i).deadline
     rows_deadline i lt =
         omega (arith, rows_time i lt, read (reach_of_task t) is.rows.reach i lt, legal.each i lt)
-
-    pub table_rows : LegalRows h inverse rest cost reach
-    table_rows = record {
-      some_core = omega (arith, is.cores, legal.some_core);
-      cores = omega (arith, is.cores, legal.cores);
-      count = omega (arith, is.n, legal.count);
-      each = λ i lt.
-          let inside : i < t.n = omega (arith, is.n) in
-          record {
-            time = omega (arith, rows_time i inside, legal.each i inside);
-            deadline = omega (arith, period i inside, rows_deadline i inside, legal.each i inside);
-            period = omega (arith, period i inside, legal.each i inside);
-            divides =
-                read (inverse_of_task t) is.rows.inverse i inside ∙ ap inverse_of (sym (period i inside));
-          };
-      levels = λ i lt.
-          let inside : i < t.n = omega (arith, is.n) in
-          omega (arith, rows_level i inside, (legal.each i inside).level);
-    }
 
     module _ (S fl : ℕ → ℕ) (k : ℕ) (inside : k < t.n) where
       -- every place of the one is the same place of the other

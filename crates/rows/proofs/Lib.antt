@@ -1,3 +1,4 @@
 pub mod FillLaws
 pub mod HeldLaws
+pub mod PushLaws
 pub mod Unique

@@ -1,10 +1,13 @@
 -- Any two results that the promise of a public function of this crate allows are equal; of `rows_of`, the
 -- head and the rows too.
 -- Assumes nothing.
-use Rattle.std.proofs.Common.{ℕ, ◌≡◌, refl, List}
+use Rattle.std.proofs.Common.{ℕ, ◌≡◌, refl, ap, List}
 use Rattle.base.proofs.Unique.{only, Only}
 use Rattle.table.specs.declared.Table.{Table}
+use Rattle.table.specs.declared.Task.{Task}
 use Rattle.rows.specs.declared.Head.{Head}
+use Rattle.rows.specs.declared.Rows.{Rows}
+use Rattle.rows.specs.Whole.{Begun, Pushed}
 use Rattle.rows.specs.Held.{RowsOf}
 use Rattle.rows.proofs.level_at.Kinds as level-at
 use Rattle.rows.proofs.level_at.Reads as level-at-reads
@@ -37,4 +40,29 @@ rows_of_only a b = (
   only a.rows.rest b.rows.rest,
   only a.rows.cost b.rows.cost,
   only a.rows.reach b.rows.reach,
+)
+
+-- what begins rows, and adds a task to them, says each field of what they are then
+pub begin_only : {p m : ℕ} {x y : Rows} → Begun p m x → Begun p m y
+    → (x.head ≡ y.head) × (x.times.inverse ≡ y.times.inverse) × (x.times.rest ≡ y.times.rest)
+    × (x.times.cost ≡ y.times.cost) × (x.reach ≡ y.reach)
+begin_only a b = (
+  same_head (only a.policy b.policy) (only a.cores b.cores) (only a.n b.n)
+      (only a.levels b.levels),
+  only a.empty.inverse b.empty.inverse,
+  only a.empty.rest b.empty.rest,
+  only a.empty.cost b.empty.cost,
+  only a.empty.reach b.empty.reach,
+)
+
+pub push_only : {r x y : Rows} {t : Task} → Pushed r t x → Pushed r t y
+    → (x.head ≡ y.head) × (x.times.inverse ≡ y.times.inverse) × (x.times.rest ≡ y.times.rest)
+    × (x.times.cost ≡ y.times.cost) × (x.reach ≡ y.reach)
+push_only a b = (
+  same_head (only a.policy b.policy) (only a.cores b.cores) (only a.n b.n)
+      (ap (λ ls. ls.of) (only a.levels b.levels)),
+  only a.inverse b.inverse,
+  only a.rest b.rest,
+  only a.cost b.cost,
+  only a.reach b.reach,
 )

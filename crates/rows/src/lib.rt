@@ -2,11 +2,12 @@
 #![tactic(auto)]
 
 ghost use Rattle.std.specs.Prelude.{◌≡◌, ◌≤◌, ◌<◌};
-ghost use Rattle.table.specs.Table.{LegalTable};
+ghost use Rattle.table.specs.Table.{LegalTable, LegalTask};
 ghost use Rattle.rows.specs.Levels.{level_in, with_level, higher_at};
-ghost use Rattle.rows.specs.Held.{EmptyRows, RowsOf};
+ghost use Rattle.rows.specs.Held.{LegalRows, RowsOf};
 
-use table::Table;
+use table::{Table, Task};
+use window::Times;
 
 // The level of each task, by place: 1 is the highest.
 #[derive(Clone, Copy)]
@@ -26,6 +27,31 @@ pub struct Head {
     pub levels: Levels,
 }
 
+// A table in rows: what it says besides its tasks, their times, and D - C of each.
+#[derive(Clone, Copy)]
+pub struct Rows {
+    pub head: Head,
+    pub times: Times,
+    pub reach: [u32; 32],
+    ghost legal: { LegalRows head times.inverse times.rest times.cost reach },
+}
+
+// Rows of no task, to be filled.
+pub const NO_ROWS: Rows = Rows {
+    head: Head {
+        policy: 0,
+        cores: 1,
+        n: 0,
+        levels: NO_LEVELS,
+    },
+    times: Times {
+        inverse: [0u64; 32],
+        rest: [0u32; 32],
+        cost: [0u32; 32],
+    },
+    reach: [0u32; 32],
+};
+
 // The level at a place.
 pub fn level_at(levels: Levels, i: usize) -> u32
     requires { i < 32 }
@@ -41,7 +67,7 @@ pub fn with_level(levels: Levels, i: usize, level: u32) -> Levels
 {
     let mut of = levels.of;
     of[i] = level as u8;
-    Levels { of: of }
+    Levels { of }
 }
 
 // Whether task i counts as higher than task k: its level is smaller or equal.
@@ -52,35 +78,46 @@ pub fn higher(levels: Levels, k: usize, i: usize) -> bool
     levels.of[i] <= levels.of[k]
 }
 
-// Fills the rows: the inverse of each period, T - C, C and D - C; the levels go with the head.
-pub fn rows_of<'a>(
-    t: Table,
-    inverse: &'a mut [u64; 32],
-    rest: &'a mut [u32; 32],
-    cost: &'a mut [u32; 32],
-    reach: &'a mut [u32; 32],
-) -> Head
-    requires { (LegalTable t) × (EmptyRows inverse.old rest.old cost.old reach.old) }
-    ensures { RowsOf t inverse.new rest.new cost.new
-        reach.new result }
+impl Rows {
+    ghost use Rattle.rows.specs.Whole.{RowsEmpty, Begun, Pushed};
+
+    // Rows of no task, and what the table says besides its tasks.
+    pub fn begin(&mut self, policy: u32, cores: u32)
+        requires { (RowsEmpty self.old) × (1 ≤ cores) × (cores ≤ 16) }
+        ensures { Begun policy cores self.new }
+    {
+        self.head = Head {
+            policy,
+            cores,
+            n: 0,
+            levels: NO_LEVELS,
+        };
+    }
+
+    // One task more, in the next place: the inverse of its period, T - C, C, D - C and its level.
+    pub fn push(&mut self, t: Task)
+        requires { (LegalTask t) × (self.old.head.n < 32) }
+        ensures { Pushed self.old t self.new }
+    {
+        let i = self.head.n;
+        self.times.inverse[i] = window::inverse_of(t.period);
+        self.times.rest[i] = t.period - t.cost;
+        self.times.cost[i] = t.cost;
+        self.reach[i] = t.deadline - t.cost;
+        self.head.levels = with_level(self.head.levels, i, t.level);
+        self.head.n = i + 1;
+    }
+}
+
+// The rows of a table.
+pub fn rows_of(t: Table) -> Rows
+    requires { LegalTable t }
+    ensures { RowsOf t result.times.inverse result.times.rest result.times.cost result.reach result.head }
 {
-    let n = t.n;
-    let mut levels = NO_LEVELS;
-    let mut i: usize = 0;
-    while i < n {
-        let task = t.tasks[i];
-        inverse[i] = window::inverse_of(task.period);
-        rest[i] = task.period - task.cost;
-        cost[i] = task.cost;
-        reach[i] = task.deadline - task.cost;
-        let next = with_level(levels, i, task.level);
-        levels = next;
-        i += 1;
+    let mut rows = NO_ROWS;
+    rows.begin(t.policy, t.cores);
+    for i in 0..t.n {
+        rows.push(t.tasks[i]);
     }
-    Head {
-        policy: t.policy,
-        cores: t.cores,
-        n: n,
-        levels: levels,
-    }
+    rows
 }

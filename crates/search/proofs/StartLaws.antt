@@ -15,8 +15,7 @@ use Rattle.shares.proofs.ShareLaws.{share_small, share_first}
 use Rattle.search.specs.Search.{least_q, Searchable, NoneBelow, first_growth, Startable}
 
 -- what the loop of `start` knows after i places
-pub record Starting (cost cap : List ℕ) (n : ℕ) (xs : List ℕ) (all i : ℕ) : Type 0 where
-  pub within : i ≤ n
+pub record Starting (cost cap xs : List ℕ) (all i : ℕ) : Type 0 where
   pub filled : xs ≡ row 0 (first_growth cost cap) i
   pub summed : all ≡ sum_to (first_growth cost cap) i
 
@@ -25,21 +24,20 @@ unfolding first_growth
 growth_most cost cap j small = omega arith
 
 module _ {cost cap : List ℕ} {n m last : ℕ} (ok : Startable cap n m last) where
-  pub start_start : Starting cost cap n (replicate 32 0) 0 0
+  pub start_start : Starting cost cap (replicate 32 0) 0 0
   start_start = record {
-    within = omega arith;
     filled = fill_start 0 (first_growth cost cap);
     summed = sum_start (first_growth cost cap);
   }
 
-  module _ {xs : List ℕ} {all i : ℕ} (a : Starting cost cap n xs all i) where
-    all_most : all ≤ i * 1000000
-    all_most =
+  module _ {xs : List ℕ} {all i : ℕ} (a : Starting cost cap xs all i) where
+    all_most : i ≤ n → all ≤ i * 1000000
+    all_most le =
         omega (
           arith,
           a.summed,
           sum_cap (first_growth cost cap) 1000000 i
-              (λ j lt. growth_most cost cap j (ok.caps j (omega (arith, a.within)))),
+              (λ j lt. growth_most cost cap j (ok.caps j (omega arith))),
         )
 
     module _ (lt : i < n) {v : ℕ} (is : v ≡ min (at cost i) (at cap i)) where
@@ -48,20 +46,19 @@ module _ {cost cap : List ℕ} {n m last : ℕ} (ok : Startable cap n m last) wh
       here = is
 
       pub start_fits : all + v ≤ 32000000
-      start_fits = omega (arith, all_most, here, growth_most cost cap i (ok.caps i lt), ok.few)
+      start_fits = omega (arith, all_most (omega arith), here, growth_most cost cap i (ok.caps i lt), ok.few)
 
-      pub start_step : Starting cost cap n (set xs i v) (all + v) (i + 1)
+      pub start_step : Starting cost cap (set xs i v) (all + v) (i + 1)
       start_step = record {
-        within = omega arith;
         filled = fill_step 0 (first_growth cost cap) (omega (arith, ok.few)) a.filled here;
         summed = sum_step (first_growth cost cap) a.summed here;
       }
 
-    module _ (out : n ≤ i) where
+    module _ (end : i ≡ n) where
       same : (j : ℕ) → j < n → at xs j ≡ first_growth cost cap j
       same j lt =
           ap (λ ys. at ys j) a.filled
-          ∙ row_at 0 (first_growth cost cap) i j (omega arith) (omega (arith, a.within, ok.few))
+          ∙ row_at 0 (first_growth cost cap) i j (omega arith) (omega (arith, ok.few))
 
       pub start_over : Over (at xs) n m 0 all (last + 1)
       start_over = record {
@@ -69,12 +66,12 @@ module _ {cost cap : List ℕ} {n m last : ℕ} (ok : Startable cap n m last) wh
         cores = ok.cores;
         used = ok.few;
         small = omega arith;
-        whole = omega (arith, all_most, a.within, ok.few);
+        whole = omega (arith, all_most (omega arith), ok.few);
         sum =
             omega (
               arith,
               sum_same (at xs) (first_growth cost cap) n same,
-              sum_end (first_growth cost cap) a.summed (let e : i ≡ n = omega (arith, a.within) in e),
+              sum_end (first_growth cost cap) a.summed end,
             );
         some = omega arith;
         range = omega (arith, ok.range);

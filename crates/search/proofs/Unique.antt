@@ -4,5 +4,5 @@ use Rattle.base.proofs.Unique.{only, Only}
 use Rattle.search.proofs.least_q.Kinds as least-q
 use Rattle.search.proofs.least_q.Reads as least-q-reads
 
-pub least_q_only : Only 1 least-q.ps least-q.r least-q-reads.Post
+pub least_q_only : Only 3 least-q.ps least-q.r least-q-reads.Post
 least_q_only κs a x y s s' p q = only p q

@@ -1,9 +1,10 @@
 -- The two loops of an evaluation: what each knows at its start, after one place more, and at its end.
 -- Assumes nothing.
-use Rattle.std.proofs.Common.{ℕ, ◌+◌, ◌*◌, ◌-◌, ◌≤◌, ◌<◌, min, arith, eq-or-lt_of_le, ◌≡◌, refl, sym, ap}
-use Rattle.std.proofs.Common.{◌∙◌, List, ⊎_elim, length, set, length-set, get_or-set_same, get_or-set_other}
+use Rattle.std.proofs.Common.{ℕ, ◌+◌, ◌*◌, ◌-◌, ◌≤◌, ◌<◌, min, arith, ◌≡◌, refl, ap}
+use Rattle.std.proofs.Common.{◌∙◌, List, length, set, length-set, get_or-set_same, get_or-set_other}
 use Rattle.base.specs.Rows.{at}
 use Rattle.base.specs.Sums.{sum_to}
+use Rattle.base.proofs.OrderLaws.{below_next}
 use Rattle.base.proofs.SumLaws.{sum_start, sum_step, sum_end, sum_cap}
 use Rattle.window.specs.Window.{whole_in, Windowed}
 use Rattle.window.proofs.WindowLaws.{inverse_small, whole_is, whole_fits}
@@ -14,12 +15,10 @@ use Rattle.shares.specs.Rows.{Workable, WorkRows, row_share, row_growth, Sharabl
 filled : (f : ℕ → ℕ) (xs : List ℕ) (i v : ℕ) → length xs ≡ 32 → i < 32 → ((j : ℕ) → j < i → at xs j ≡ f j)
     → v ≡ f i
     → (j : ℕ) → j < i + 1 → at (set xs i v) j ≡ f j
-filled f xs i v size small done is j lt =
-    ⊎_elim
-    (λ (e : j ≡ i).
-    ap (at (set xs i v)) e ∙ get_or-set_same xs i v 0 (omega (arith, size)) ∙ is ∙ ap f (sym e))
-    (λ (l : j < i). get_or-set_other xs i j v 0 (λ e. omega arith) ∙ done j l)
-    (eq-or-lt_of_le (let y : j ≤ i = omega arith in y))
+filled f xs i v size small done is =
+    below_next (λ j. at (set xs i v) j ≡ f j) i
+    (λ j lt. get_or-set_other xs i j v 0 (λ e. omega arith) ∙ done j lt)
+    (get_or-set_same xs i v 0 (omega (arith, size)) ∙ is)
 
 -- the rows of works
 module _ {inverse rest cost reach : List ℕ} {n l : ℕ} {full₀ line₀ : List ℕ}
@@ -71,14 +70,13 @@ module _ {inverse rest cost reach : List ℕ} {n l : ℕ} {full₀ line₀ : Lis
           small : i < 32
           small = omega (arith, ok.used)
 
-  pub work_end : {i : ℕ} {full line : List ℕ} → i ≤ n → n ≤ i → WorkRows rest cost reach i l full line
-      → WorkRows rest cost reach n l full line
-  work_end {i} in' out a = rw (let e : n ≡ i = omega arith in e) a
+pub work_end : {rest cost reach : List ℕ} {i n l : ℕ} {full line : List ℕ} → n ≡ i
+    → WorkRows rest cost reach i l full line → WorkRows rest cost reach n l full line
+work_end e a = rw e a
 
 -- the row of shares: up to i the growths, from i on the full works as they were
-pub record Sharing (line cap : List ℕ) (n q : ℕ) (row₀ : List ℕ) (sum all : ℕ) (row : List ℕ) (i : ℕ) : Type 0
+pub record Sharing (line cap : List ℕ) (q : ℕ) (row₀ : List ℕ) (sum all : ℕ) (row : List ℕ) (i : ℕ) : Type 0
   where
-    pub within : i ≤ n
     pub size : length row ≡ 32
     pub sum_is : sum ≡ sum_to (row_share row₀ line cap q) i
     pub all_is : all ≡ sum_to (row_growth row₀ line cap q) i
@@ -86,9 +84,8 @@ pub record Sharing (line cap : List ℕ) (n q : ℕ) (row₀ : List ℕ) (sum al
     pub left : (j : ℕ) → i ≤ j → at row j ≡ at row₀ j
 
 module _ {line cap : List ℕ} {n q : ℕ} {row₀ : List ℕ} (ok : Sharable cap n q row₀) where
-  pub share_start : Sharing line cap n q row₀ 0 0 row₀ 0
+  pub share_start : Sharing line cap q row₀ 0 0 row₀ 0
   share_start = record {
-    within = omega arith;
     size = ok.size;
     sum_is = sum_start (row_share row₀ line cap q);
     all_is = sum_start (row_growth row₀ line cap q);
@@ -96,7 +93,7 @@ module _ {line cap : List ℕ} {n q : ℕ} {row₀ : List ℕ} (ok : Sharable ca
     left = λ j le. refl;
   }
 
-  module _ {sum all : ℕ} {row : List ℕ} {i : ℕ} (a : Sharing line cap n q row₀ sum all row i) where
+  module _ {sum all : ℕ} {row : List ℕ} {i : ℕ} (a : Sharing line cap q row₀ sum all row i) where
     share_most : (j : ℕ) → row_share row₀ line cap q j ≤ 1000000
     unfolding row_share
     share_most j = omega (arith, ok.span)
@@ -109,16 +106,16 @@ module _ {line cap : List ℕ} {n q : ℕ} {row₀ : List ℕ} (ok : Sharable ca
     sum_most =
         omega (arith, a.sum_is, sum_cap (row_share row₀ line cap q) 1000000 i (λ j lt. share_most j))
 
-    all_most : all ≤ i * 1000000
-    all_most =
-        omega (
-          arith,
-          a.all_is,
-          sum_cap (row_growth row₀ line cap q) 1000000 i (λ j lt. growth_most j (omega (arith, a.within))),
-        )
-
     module _ (lt : i < n) {top low share : ℕ} (top_is : top ≡ min (at row i) (at cap i))
         (low-is : low ≡ min top (at line i)) (is : share ≡ min low q) where
+      all_most : all ≤ i * 1000000
+      all_most =
+          omega (
+            arith,
+            a.all_is,
+            sum_cap (row_growth row₀ line cap q) 1000000 i (λ j l. growth_most j (omega arith)),
+          )
+
       share_here : share ≡ row_share row₀ line cap q i
       unfolding row_share
       share_here =
@@ -142,10 +139,9 @@ module _ {line cap : List ℕ} {n q : ℕ} {row₀ : List ℕ} (ok : Sharable ca
         omega (arith, all_most, growth_here, growth_most i lt, ok.used),
       )
 
-      pub share_step : Sharing line cap n q row₀ (sum + share) (all + (top - share))
+      pub share_step : Sharing line cap q row₀ (sum + share) (all + (top - share))
           (set row i (top - share)) (i + 1)
       share_step = record {
-        within = omega arith;
         size = length-set row i (top - share) ∙ a.size;
         sum_is = sum_step (row_share row₀ line cap q) a.sum_is share_here;
         all_is = sum_step (row_growth row₀ line cap q) a.all_is growth_here;
@@ -156,12 +152,10 @@ module _ {line cap : List ℕ} {n q : ℕ} {row₀ : List ℕ} (ok : Sharable ca
             get_or-set_other row i j (top - share) 0 (λ e. omega arith) ∙ a.left j (omega arith);
       }
 
-    pub share_end : n ≤ i → Shared line cap n q row₀ (record { sum = sum; all = all }) row
-    share_end out =
-        let e : i ≡ n = omega (arith, a.within) in
-        record {
-          size = a.size;
-          sum = sum_end (row_share row₀ line cap q) a.sum_is e;
-          all = sum_end (row_growth row₀ line cap q) a.all_is e;
-          growth = λ j lt. a.done j (omega arith);
-        }
+    pub share_end : i ≡ n → Shared line cap n q row₀ (record { sum = sum; all = all }) row
+    share_end e = record {
+      size = a.size;
+      sum = sum_end (row_share row₀ line cap q) a.sum_is e;
+      all = sum_end (row_growth row₀ line cap q) a.all_is e;
+      growth = λ j lt. a.done j (omega arith);
+    }

@@ -4,5 +4,5 @@ use Rattle.base.proofs.Unique.{only, Only}
 use Rattle.slack_bound.proofs.bound_under.Kinds as bound-under
 use Rattle.slack_bound.proofs.bound_under.Reads as bound-under-reads
 
-pub bound_under_only : Only 1 bound-under.ps bound-under.r bound-under-reads.Post
+pub bound_under_only : Only 3 bound-under.ps bound-under.r bound-under-reads.Post
 bound_under_only κs a x y s s' p q = only p q

@@ -5,7 +5,7 @@ use Rattle.std.proofs.Common.{not, eqb, eq-eqb, ne_eqb, eqb-true}
 use Rattle.base.specs.Choice.{pick}
 use Rattle.base.proofs.FirstLaws.{NoneTo, find_start, find_step, find_here, find_none}
 use Rattle.table.specs.declared.Table.{Table}
-use Rattle.table.specs.declared.Checked.TheVariants.{Fine}
+use Rattle.std.proofs.Common.{Ok}
 use Rattle.table.specs.Checks.{head_fault_of, task_fault_at, faulty_task, faulty, check_of}
 use Rattle.table.proofs.RangeLaws.{head_legal}
 
@@ -40,48 +40,42 @@ module _ (t : Table) where
     unfolding check_of
     task_refused {i} e is = rw (head, ← e) (ap (λ x. faulty x (suc i)) is)
 
-    pub all_fine : 0 ≡ faulty_task t → Fine ≡ check_of t
+    pub all_fine : 0 ≡ faulty_task t → Ok tt ≡ check_of t
     unfolding check_of
     all_fine e = rw (head, ← e)
 
--- What the loop knows at task i: the head has no fault, and no task before i has one; the place is i's.
-pub record Checking (t : Table) (i place : ℕ) : Type 0 where
+-- What the loop knows at task i: the head has no fault, and no task before i has one.
+pub record Checking (t : Table) (i : ℕ) : Type 0 where
   pub head : head_fault_of t ≡ 0
   pub range : t.n ≤ 32
-  pub low : i ≤ t.n
-  pub here : place ≡ i
   pub before : NoneTo (wrong_at t) i
 
 module _ (t : Table) where
-  pub checking_start : head_fault_of t ≡ 0 → Checking t 0 0
+  pub checking_start : head_fault_of t ≡ 0 → Checking t 0
   checking_start head = record {
     head = head;
     range = (head_legal {h = t} head).count.1;
-    low = omega arith;
-    here = refl;
     before = find_start (wrong_at t);
   }
 
-  module _ {i place : ℕ} (a : Checking t i place) where
-    pub checking_step : i < t.n → task_fault_at t i ≡ 0 → Checking t (i + 1) (place + 1)
-    checking_step lt fine = record {
+  module _ {i : ℕ} (a : Checking t i) where
+    pub checking_step : task_fault_at t i ≡ 0 → Checking t (i + 1)
+    checking_step fine = record {
       head = a.head;
       range = a.range;
-      low = omega arith;
-      here = omega (arith, a.here);
       before = find_step (wrong_at t) a.before (right_at t i fine);
     }
 
     pub checking_fault : (f : ℕ) → i < t.n → f ≡ task_fault_at t i → (f ≡ 0 → ⊥)
-        → faulty f (place + 1) ≡ check_of t
+        → faulty f (i + 1) ≡ check_of t
     unfolding faulty_task
     checking_fault f lt e some =
-        ap (faulty f) (let y : place + 1 ≡ suc i = omega (arith, a.here) in y)
+        ap (faulty f) (let y : i + 1 ≡ suc i = omega arith in y)
         ∙ task_refused t a.head
         ((let y : suc i ≡ i + 1 = omega arith in y)
         ∙ find_here (wrong_at t) a.before lt (wrong_at_lem t i (λ z. some (e ∙ z))))
         e
 
-    pub checking_end : t.n ≤ i → Fine ≡ check_of t
+    pub checking_end : t.n ≤ i → Ok tt ≡ check_of t
     unfolding faulty_task
     checking_end done = all_fine t a.head (find_none (wrong_at t) a.before done)

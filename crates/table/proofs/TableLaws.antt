@@ -7,7 +7,7 @@ use Rattle.base.proofs.RowLaws.{list_at}
 use Rattle.base.specs.Rows.{at}
 use Rattle.model.specs.Bound.{Legal}
 use Rattle.table.specs.declared.Table.{Table}
-use Rattle.table.specs.declared.Checked.TheVariants.{Fine}
+use Rattle.std.proofs.Common.{Ok}
 use Rattle.table.specs.Table.{task_at, system_of, flag_at, flags_of, LegalTask, LegalTable}
 use Rattle.table.specs.Checks.{faulty_task, faulty, check_of}
 use Rattle.table.specs.Faults.{TaskWrong, LegalHead, TableWrong, in_head, in_task}
@@ -58,7 +58,7 @@ module _ {t : Table} where
   }
 
   -- a legal table is fine
-  pub legal_fine : LegalTable t → Fine ≡ check_of t
+  pub legal_fine : LegalTable t → Ok tt ≡ check_of t
   unfolding faulty_task
   legal_fine h =
       all_fine t (right_head (table_head h))
@@ -109,7 +109,7 @@ table_cases t =
         inr (w.0, (k + 1, in_task k head first.inside (λ j l. right j (first.before j l)) w.1))
 
 -- what is fine is legal
-pub fine_legal : {t : Table} → check_of t ≡ Fine → LegalTable t
+pub fine_legal : {t : Table} → check_of t ≡ Ok tt → LegalTable t
 fine_legal {t} e =
     ⊎_elim (λ legal. legal)
     (λ w. absurd (let z : ◌≡◌ {A = ℕ} 0 1 = cc (fault_checked w.1.1) in omega arith))

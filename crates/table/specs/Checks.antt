@@ -9,21 +9,23 @@
 --   5, 6, 7, then 8 to 11 and 17 task by task            check_of t
 --
 -- Assumes nothing.
-use Rattle.std.specs.Prelude.{ℕ, suc, Bool, true, not, ltb, eqb}
+use Rattle.std.specs.Prelude.{ℕ, suc, Bool, true, not, ltb, eqb, ⊤, Result, Ok, Err}
 use Rattle.base.specs.Choice.{pick, or_else}
 use Rattle.base.specs.Least.{first_of}
 use Rattle.table.specs.declared.Task.{Task}
 use Rattle.table.specs.declared.Table.{Table}
 use Rattle.table.specs.declared.Refusal.{Refusal}
-use Rattle.table.specs.declared.Checked.{Checked}
-use Rattle.table.specs.declared.Checked.TheVariants.{Fine, Refused}
 use Rattle.table.specs.Table.{task_at}
+
+-- what the checks or a reading say: nothing, or the first fault
+abbrev pub Checked : Type 0
+Checked = Result ⊤ Refusal
 
 abbrev pub refusal : ℕ → ℕ → Refusal
 refusal number place = record { number = number; place = place }
 
 abbrev pub faulty : ℕ → ℕ → Checked
-faulty number place = Refused (refusal number place)
+faulty number place = Err (refusal number place)
 
 -- x is not one of lo .. hi
 abbrev pub outside : ℕ → ℕ → ℕ → Bool
@@ -52,5 +54,5 @@ faulty_task t = first_of (λ i. not (eqb (task_fault_at t i) 0)) t.n
 
 unfoldable pub check_of : Table → Checked
 check_of t =
-    or_else (head_fault_of t) (or_else (faulty_task t) Fine (λ i. faulty (task_fault_at t i) (suc i)))
+    or_else (head_fault_of t) (or_else (faulty_task t) (Ok tt) (λ i. faulty (task_fault_at t i) (suc i)))
     (λ f. faulty (suc f) 0)

@@ -2,6 +2,7 @@
 #![tactic(auto)]
 
 ghost use Rattle.std.specs.Prelude.{◌≡◌};
+ghost use Rattle.base.specs.Choice.{some_of};
 ghost use Rattle.table.specs.Checks.{outside, head_fault, task_fault, check_of};
 
 // A task as it is given: any numbers, so that a wrong one can be named.
@@ -32,87 +33,76 @@ pub const NO_TASK: Task = Task {
     level: 0,
 };
 
-// A refusal: document 01's number, and its place.
+// A refusal: document 01's number, and its place. The number is a u32 and no enum: document 01 gives refusals
+// by number, and the C interface and the theorems of the front page have these numbers.
 #[derive(Clone, Copy)]
 pub struct Refusal {
     pub number: u32,
     pub place: u32,
 }
 
-// What the checks, or a reading, say of a table: fine, or the first fault. For a table that is given by value
-// the place is the task's number, and 0 for 5, 6, 7.
-#[derive(Clone, Copy)]
-pub enum Checked {
-    Fine,
-    Refused(Refusal),
-}
-
 // Whether x is none of lo .. hi.
 fn outside(lo: u32, hi: u32, x: u32) -> bool
     ensures { result ≡ outside lo hi x }
 {
-    if x < lo { true } else { hi < x }
+    !(lo..=hi).contains(&x)
 }
 
-// The first of the faults 5, 6, 7, and 0 for none.
-pub fn head_fault(cores: u32, policy: u32, n: usize) -> u32
-    ensures { result ≡ head_fault cores policy n }
+// The first of the faults 5, 6, 7.
+#[tactic(auto, unfolding(crate::specs::Checks::head_fault))]
+pub fn head_fault(cores: u32, policy: u32, n: usize) -> Option<u32>
+    ensures { result ≡ some_of (head_fault cores policy n) }
 {
     if outside(1, 16, cores) {
-        return 5;
+        return Some(5);
     }
     if outside(0, 1, policy) {
-        return 6;
+        return Some(6);
     }
-    if n < 1 {
-        return 7;
+    if !(1..=32).contains(&n) {
+        return Some(7);
     }
-    if 32 < n { 7 } else { 0 }
+    None
 }
 
-// The first of the faults 8, 9, 10, 11, 17, and 0 for none.
-pub fn task_fault(t: Task) -> u32
-    ensures { result ≡ task_fault t }
+// The first of the faults 8, 9, 10, 11, 17.
+#[tactic(auto, unfolding(crate::specs::Checks::task_fault))]
+pub fn task_fault(t: Task) -> Option<u32>
+    ensures { result ≡ some_of (task_fault t) }
 {
     if outside(0, 1, t.flag) {
-        return 8;
+        return Some(8);
     }
     if outside(1, 1000000, t.period) {
-        return 9;
+        return Some(9);
     }
     if outside(1, t.period, t.deadline) {
-        return 10;
+        return Some(10);
     }
     if outside(1, t.deadline, t.cost) {
-        return 11;
+        return Some(11);
     }
-    if outside(1, 32, t.level) { 17 } else { 0 }
+    if outside(1, 32, t.level) {
+        return Some(17);
+    }
+    None
 }
 
-// The checks 5 to 11 and 17 of a whole table: its numbers first, then task by task.
-pub fn check_table(t: Table) -> Checked
+// The checks 5 to 11 and 17 of a whole table: its numbers first, then task by task. The first fault has the
+// task's number as place, and 0 for 5, 6, 7.
+pub fn check_table(t: Table) -> Result<(), Refusal>
     ensures { result ≡ check_of t }
 {
-    let n = t.n;
-    let head = head_fault(t.cores, t.policy, n);
-    if head != 0 {
-        return Checked::Refused(Refusal {
-            number: head,
-            place: 0,
-        });
+    if let Some(number) = head_fault(t.cores, t.policy, t.n) {
+        return Err(Refusal { number, place: 0 });
     }
-    let mut i: usize = 0;
-    let mut place: u32 = 0;
-    while i < n {
-        let fault = task_fault(t.tasks[i]);
-        place += 1;
-        if fault != 0 {
-            return Checked::Refused(Refusal {
-                number: fault,
-                place: place,
+    for i in 0..t.n {
+        if let Some(number) = task_fault(t.tasks[i]) {
+            return Err(Refusal {
+                number,
+                place: i as u32 + 1,
             });
         }
-        i += 1;
     }
-    Checked::Fine
+    Ok(())
 }

@@ -17,6 +17,7 @@ pub struct TaskRow {
 }
 
 // The start of a task's line: number, final flag, whether it was forced.
+#[tactic(auto, using(crate::proofs::TaskLaws::start_length))]
 fn put_task_start(out: &mut [u8], at: usize, number: u32, flag: u32, forced: u32) -> usize
     requires { at + length (task_start number flag forced) ≤ length out.old }
     ensures { Put out.old at (task_start number flag forced) result out.new }
@@ -27,6 +28,7 @@ fn put_task_start(out: &mut [u8], at: usize, number: u32, flag: u32, forced: u32
 }
 
 // A task's line: after its start the bound, deadline and load.
+#[tactic(auto, using(crate::proofs::TaskLaws::task_length))]
 pub fn put_task(out: &mut [u8], at: usize, row: TaskRow) -> usize
     requires { at + length (task_line_text row) ≤ length out.old }
     ensures { Put out.old at (task_line_text row) result out.new }

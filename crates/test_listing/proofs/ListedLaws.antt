@@ -4,7 +4,7 @@ use Rattle.std.proofs.Common.{ℕ, ◌+◌, ◌≤◌, arith, ◌≡◌, sym, ap
 use Rattle.table.specs.Table.{LegalTable}
 use Rattle.table.specs.declared.Table.{Table}
 use Rattle.table.specs.declared.Refusal.{Refusal}
-use Rattle.table.specs.declared.Checked.TheVariants.{Fine, Refused as Faulty}
+use Rattle.std.proofs.Common.{Ok, Err}
 use Rattle.lines.specs.Reads.{read_of}
 use Rattle.lines.specs.declared.Reading.{Reading}
 use Rattle.lines.proofs.Theorems.{read_legal, refused_small}
@@ -48,12 +48,12 @@ module _ (t : Table) (rs : List Record) (says : ℕ) where
 
 -- the text of each answer
 module _ (text : List ℕ) where
-  pub listing_refused : {why : Refusal} → (read_of text).answer ≡ Faulty why
+  pub listing_refused : {why : Refusal} → (read_of text).answer ≡ Err why
       → refusal_line why.number why.place 0 ≡ test_of text
   unfolding test_of plan_done
   listing_refused e = rw e
 
-  pub listing_legal : (read_of text).answer ≡ Fine
+  pub listing_legal : (read_of text).answer ≡ Ok tt
       → test_by (read_of text).table (legal_done (read_of text).table Test).recs
       (legal_done (read_of text).table Test).answer
       ≡ test_of text
@@ -62,12 +62,12 @@ module _ (text : List ℕ) where
 
   -- in the code's words: r is what was read, d what the table is answered
   module _ {r : Reading} (re : r ≡ read_of text) where
-    pub read_table : r.answer ≡ Fine → LegalTable r.table
+    pub read_table : r.answer ≡ Ok tt → LegalTable r.table
     read_table fine =
         subst (λ (x : Reading). LegalTable x.table) (sym re)
         (read_legal text (ap (λ (x : Reading). x.answer) (sym re) ∙ fine))
 
-    pub listing_done : {d : Done} → r.answer ≡ Fine → d ≡ legal_done r.table Test
+    pub listing_done : {d : Done} → r.answer ≡ Ok tt → d ≡ legal_done r.table Test
         → test_by r.table d.recs d.answer ≡ test_of text
     listing_done {d} fine de =
         ap (λ (x : Done). test_by r.table x.recs x.answer) de
@@ -75,11 +75,11 @@ module _ (text : List ℕ) where
         (legal_done x.table Test).answer) re
         ∙ listing_legal (ap (λ (x : Reading). x.answer) (sym re) ∙ fine)
 
-    pub listing_faulty : {why : Refusal} → r.answer ≡ Faulty why
+    pub listing_faulty : {why : Refusal} → r.answer ≡ Err why
         → refusal_line why.number why.place 0 ≡ test_of text
     listing_faulty fault = listing_refused (ap (λ (x : Reading). x.answer) (sym re) ∙ fault)
 
-    pub refusal_ready : {why : Refusal} {n : ℕ} → r.answer ≡ Faulty why → listing_room ≤ n
+    pub refusal_ready : {why : Refusal} {n : ℕ} → r.answer ≡ Err why → listing_room ≤ n
         → 0 + length (refusal_line why.number why.place 0) ≤ n
     refusal_ready {why} {n} fault enough =
         let small : (why.number ≤ 12) × (why.place ≤ 34) =

@@ -10,7 +10,7 @@
 --   what a buffer holds then                                   TestListed
 --
 -- Assumes nothing.
-use Rattle.std.specs.Prelude.{ℕ, ◌+◌, ◌≤◌, Bool, List, [], ◌∷◌, ◌++◌, length}
+use Rattle.std.specs.Prelude.{ℕ, ◌+◌, ◌≤◌, Bool, List, [], ◌∷◌, ◌++◌, length, Ok, Err}
 use Rattle.base.specs.Choice.{pick}
 use Rattle.page.specs.Decimal.{decimal}
 use Rattle.page.specs.Words.{word, either, line}
@@ -21,9 +21,7 @@ use Rattle.lines.specs.Reads.{read_of}
 use Rattle.planner.specs.declared.Record.{Record}
 use Rattle.planner.specs.declared.Done.{Done}
 use Rattle.planner.specs.declared.Job.TheVariants.{Test}
-use Rattle.planner.specs.declared.Answer.{Answer}
-use Rattle.planner.specs.declared.Answer.TheVariants.{Given, Refused}
-use Rattle.planner.specs.Answers.{record_at}
+use Rattle.planner.specs.Answers.{Answer, record_at}
 use Rattle.planner.specs.Done.{plan_done}
 use Rattle.listing_lines.specs.Lines.{line_one, refusal_line}
 use Rattle.listing.specs.Listing.{lines_to, ListedAs}
@@ -74,8 +72,8 @@ test_text t rs says =
 
 -- by the answer of the test
 abbrev pub test_by : Table → List Record → Answer → List ℕ
-test_by t rs (Given v) = test_text t rs (says_of v.yes)
-test_by t rs (Refused why passes) = refusal_line why.number why.place passes
+test_by t rs (Ok v) = test_text t rs (says_of v.yes)
+test_by t rs (Err s) = refusal_line s.why.number s.why.place s.passes
 
 -- the listing of a plan text; 32 records are room for every table
 unfoldable pub test_of : List ℕ → List ℕ

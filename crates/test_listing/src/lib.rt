@@ -2,15 +2,15 @@
 // buffer that the caller lends.
 #![tactic(auto)]
 
-ghost use Rattle.std.specs.Prelude.{◌≡◌, ◌+◌, ◌≤◌, length};
+ghost use Rattle.std.specs.Prelude.{◌+◌, ◌≤◌, length};
 ghost use Rattle.table.specs.Table.{LegalTable};
 ghost use Rattle.buffer.specs.Put.{Put};
 ghost use Rattle.listing.specs.Listing.{lines_to};
-ghost use Rattle.test_listing.specs.TestListing.{bound_part, test_task, test_last, says_of, test_line_at};
+ghost use Rattle.test_listing.specs.TestListing.{bound_part, test_task, test_last, test_line_at};
 ghost use Rattle.test_listing.specs.TestListing.{test_text, test_by, Ready, TestListed};
 
-use planner::{Answer, Done, Job, Record};
-use table::{Checked, Table};
+use planner::{Done, Job, Record};
+use table::Table;
 
 // What a task's line shows.
 #[derive(Clone, Copy)]
@@ -35,6 +35,7 @@ fn put_bound(out: &mut [u8], at: usize, bound: u32) -> usize
 }
 
 // A task's line: number, flag, bound or none, deadline, load.
+#[tactic(auto, using(crate::proofs::LineLaws::task_length))]
 fn put_row(out: &mut [u8], at: usize, row: TestRow) -> usize
     requires { at + length (test_task row) ≤ length out.old }
     ensures { Put out.old at (test_task row) result out.new }
@@ -52,35 +53,24 @@ fn put_rows(out: &mut [u8], at: usize, t: Table, recs: [Record; 32]) -> usize
     requires { LegalTable t × (at + length (lines_to (test_line_at t recs) t.n) ≤ length out.old) }
     ensures { Put out.old at (lines_to (test_line_at t recs) t.n) result out.new }
 {
-    let n = t.n;
     let mut place = at;
-    let mut number: u32 = 0;
-    let mut i: usize = 0;
-    while i < n {
+    for i in 0..t.n {
         let task = t.tasks[i];
         let rec = recs[i];
-        number += 1;
         let row = TestRow {
-            number: number,
+            number: i as u32 + 1,
             flag: rec.flag,
             bound: rec.bound,
             deadline: task.deadline,
             load: loads::task_load(task.cost, task.period),
         };
         place = put_row(out, place, row);
-        i += 1;
     }
     place
 }
 
-// 1 for a yes.
-fn says_of(yes: bool) -> u32
-    ensures { result ≡ says_of yes }
-{
-    if yes { 1 } else { 0 }
-}
-
 // The last line: total load, yes or no.
+#[tactic(auto, using(crate::proofs::LineLaws::last_length))]
 fn put_last(out: &mut [u8], at: usize, total: u32, says: u32) -> usize
     requires { at + length (test_last total says) ≤ length out.old }
     ensures { Put out.old at (test_last total says) result out.new }
@@ -91,12 +81,12 @@ fn put_last(out: &mut [u8], at: usize, total: u32, says: u32) -> usize
 }
 
 // The listing of a table that was tested.
+#[tactic(auto, using(crate::proofs::ListedLaws::tested_length))]
 fn put_tested(out: &mut [u8], t: Table, recs: [Record; 32], says: u32) -> usize
     requires { LegalTable t × (length (test_text t recs says) ≤ length out.old) }
     ensures { Put out.old 0 (test_text t recs says) result out.new }
 {
-    let n = t.n;
-    let a = listing_lines::put_line_one(out, 0, t.policy, t.cores, n as u32);
+    let a = listing_lines::put_line_one(out, 0, t.policy, t.cores, t.n as u32);
     let b = put_rows(out, a, t, recs);
     let total = loads::total_load(t);
     put_last(out, b, total, says)
@@ -107,13 +97,15 @@ pub fn put_done(out: &mut [u8], t: Table, done: Done) -> usize
     requires { Ready t done out.old }
     ensures { Put out.old 0 (test_by t done.recs done.answer) result out.new }
 {
-    let recs = done.recs;
-    let said = done.answer;
-    match said {
-        Answer::Given(v) => put_tested(out, t, recs, says_of(v.yes)),
-        Answer::Refused { why, passes } => {
-            refusal_line::put_refusal(out, 0, why.number, why.place, passes)
-        }
+    match done.answer {
+        Ok(v) => put_tested(out, t, done.recs, u32::from(v.yes)),
+        Err(stop) => refusal_line::put_refusal(
+            out,
+            0,
+            stop.why.number,
+            stop.why.place,
+            stop.passes,
+        ),
     }
 }
 
@@ -125,10 +117,9 @@ pub fn write_test(text: &[u8], out: &mut [u8]) -> usize
         return 0;
     }
     let reading = reader::read_plan(text);
-    let found = reading.answer;
     let table = reading.table;
-    match found {
-        Checked::Fine => put_done(out, table, planner::legal_done(table, Job::Test)),
-        Checked::Refused(why) => refusal_line::put_refusal(out, 0, why.number, why.place, 0),
+    match reading.answer {
+        Ok(()) => put_done(out, table, planner::legal_done(table, Job::Test)),
+        Err(why) => refusal_line::put_refusal(out, 0, why.number, why.place, 0),
     }
 }

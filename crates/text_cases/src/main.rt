@@ -6,37 +6,21 @@
 mod reading;
 mod writing;
 
-ghost use Rattle.std.specs.Prelude.{◌≤◌, length};
+ghost use Rattle.std.specs.Prelude.{◌≤◌, IfSome, length};
 
-// A digit's value, and 10 for what is no digit.
+// A digit's value. What is no digit counts as 10.
 fn digit(b: u8) -> usize
     ensures { result ≤ 10 }
 {
-    if b < 48 {
-        return 10;
-    }
-    if 57 < b {
-        return 10;
-    }
-    (b - 48) as usize
+    usize::from(b.wrapping_sub(b'0').min(10))
 }
 
-// The length in a case's first line, at most 9,999; 10,000 where it is none.
-fn size(head: &[u8; 6]) -> usize
-    ensures { result ≤ 10000 }
+// The length in a case's first line, at most 9,999.
+fn size(head: &[u8; 6]) -> Option<usize>
+    ensures { IfSome result (λ n. n ≤ 9999) }
 {
-    let a = digit(head[1]);
-    let b = digit(head[2]);
-    let c = digit(head[3]);
-    let d = digit(head[4]);
-    if head[5] != 10 {
-        return 10000;
-    }
-    let n = 1000 * a + 100 * b + 10 * c + d;
-    if 9999 < n {
-        return 10000;
-    }
-    n
+    let n = 1000 * digit(head[1]) + 100 * digit(head[2]) + 10 * digit(head[3]) + digit(head[4]);
+    (head[5] == b'\n' && n <= 9999).then_some(n)
 }
 
 // The listing of a text; whether it was written.
@@ -48,20 +32,16 @@ fn print(text: &[u8]) -> bool {
 
 // What is asked of a text; whether it was answered.
 fn answer(asked: u8, text: &[u8]) -> bool {
-    if asked == 48 {
-        return reading::say(text);
+    match asked {
+        b'0' => reading::say(text),
+        b'1' => print(text),
+        b'2' => writing::say(text),
+        b'3' => writing::say_changed(text),
+        _ => {
+            io::write_all(2, b"text_cases: a case does not say what is asked\n");
+            false
+        }
     }
-    if asked == 49 {
-        return print(text);
-    }
-    if asked == 50 {
-        return writing::say(text);
-    }
-    if asked == 51 {
-        return writing::say_changed(text);
-    }
-    io::write_all(2, b"text_cases: a case does not say what is asked\n");
-    false
 }
 
 // The text of a case, of n bytes, and its answer; whether there may be another case.
@@ -83,19 +63,19 @@ fn one() -> bool {
     if got == 0 {
         return false;
     }
-    let n = size(&head);
-    if n == 10000 {
+    let Some(n) = size(&head) else {
         io::write_all(2, b"text_cases: a case does not start with its length\n");
         return false;
-    }
+    };
     let mut text = io::large_buffer();
     rest(head[0], &mut text, n)
 }
 
-// A loop has to end, and nothing says that the input does: the turns are counted down.
+// A loop has to end, and nothing says that the input does: so many turns at most.
 fn main() {
-    let mut turns: u32 = 1000000;
-    while turns > 0 && one() {
-        turns -= 1;
+    for _ in 0..1000000 {
+        if !one() {
+            return;
+        }
     }
 }

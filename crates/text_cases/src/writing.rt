@@ -4,33 +4,19 @@
 // n, the start in two words, k, then flag T C D of each of k tasks, at most 32; the bytes that follow are the
 // buffer. To write a plan as changed: the start in two words, the length of the buffer, the buffer, and then
 // the plan. What is missing counts as 0.
-ghost use Rattle.std.specs.Prelude.{◌<◌, ◌≤◌, length};
+ghost use Rattle.std.specs.Prelude.{◌≤◌, length};
 
-use changer::Changed;
 use table::{NO_TASK, Task};
-use writer::Written;
 
-fn wide(x: u8) -> u32
-    ensures { result < 256 }
-{
-    x as u32
-}
-
-fn byte(s: &[u8], i: usize) -> u32
-    ensures { result < 256 }
-{
-    if i < s.len() { wide(s[i]) } else { 0 }
+fn byte(s: &[u8], i: usize) -> u8 {
+    s.get(i).copied().unwrap_or(0)
 }
 
 // The word from this place on.
 fn word(s: &[u8], i: usize) -> u32
     requires { i ≤ 10000 }
 {
-    let a = byte(s, i);
-    let b = byte(s, i + 1);
-    let c = byte(s, i + 2);
-    let d = byte(s, i + 3);
-    16777216 * a + 65536 * b + 256 * c + d
+    u32::from_be_bytes([byte(s, i), byte(s, i + 1), byte(s, i + 2), byte(s, i + 3)])
 }
 
 // The start place in the two words from this place on.
@@ -50,19 +36,15 @@ fn task(s: &[u8], i: usize, level: u32) -> Task
         period: word(s, i + 4),
         cost: word(s, i + 8),
         deadline: word(s, i + 12),
-        level: level,
+        level,
     }
 }
 
 // The first k tasks, with their places as levels, and zeros past them.
 fn tasks(s: &[u8], k: usize) -> [Task; 32] {
     let mut all = [NO_TASK; 32];
-    let mut i: usize = 0;
-    while i < 32 {
-        if i < k {
-            all[i] = task(s, 24 + 16 * i, i as u32 + 1);
-        }
-        i += 1;
+    for i in 0..k.min(32) {
+        all[i] = task(s, 24 + 16 * i, i as u32 + 1);
     }
     all
 }
@@ -72,28 +54,20 @@ fn fill(s: &[u8], from: usize, n: usize, out: &mut [u8]) -> usize
     requires { from ≤ 10000 }
     ensures { result ≤ length out.new }
 {
-    let mut i: usize = 0;
-    while i < out.len() {
-        if n <= i {
-            return i;
-        }
-        if s.len() <= from + i {
-            return i;
-        }
-        out[i] = s[from + i];
-        i += 1;
-    }
-    i
+    let first = from.min(s.len());
+    let count = n.min(out.len()).min(s.len() - first);
+    out[..count].copy_from_slice(&s[first..first + count]);
+    count
 }
 
 fn refuse(number: u32, place: u32, passes: u32) {
     io::write_all(1, b"refused ");
-    io::print_decimal(1, number as u64);
+    io::print_decimal(1, u64::from(number));
     io::write_all(1, b" place ");
-    io::print_decimal(1, place as u64);
+    io::print_decimal(1, u64::from(place));
     if number == 14 {
         io::write_all(1, b" passes ");
-        io::print_decimal(1, passes as u64);
+        io::print_decimal(1, u64::from(passes));
     }
     io::write_all(1, b"\n");
 }
@@ -113,20 +87,18 @@ fn say_buffer(out: &[u8]) -> bool {
 // A table is written into the buffer.
 fn write_into(s: &[u8], k: usize, out: &mut [u8]) -> bool {
     let n = word(s, 8) as usize;
-    let said = writer::write_list(word(s, 0), word(s, 4), n, tasks(s, k), out, start(s, 12));
-    match said {
-        Written::End(end) => ended(end),
-        Written::Refused(why) => refuse(why.number, why.place, 0),
+    match writer::write_list(word(s, 0), word(s, 4), n, tasks(s, k), out, start(s, 12)) {
+        Ok(end) => ended(end),
+        Err(why) => refuse(why.number, why.place, 0),
     }
     say_buffer(out)
 }
 
 // A plan is written as changed into the buffer.
 fn change_into(s: &[u8], plan: &[u8], out: &mut [u8]) -> bool {
-    let said = changer::write_changed(plan, out, start(s, 0));
-    match said {
-        Changed::End(end) => ended(end),
-        Changed::Refused { why, passes } => refuse(why.number, why.place, passes),
+    match changer::write_changed(plan, out, start(s, 0)) {
+        Ok(end) => ended(end),
+        Err(stop) => refuse(stop.why.number, stop.why.place, stop.passes),
     }
     say_buffer(out)
 }

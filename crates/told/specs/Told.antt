@@ -14,8 +14,7 @@
 -- Assumes nothing.
 use Rattle.std.specs.Prelude.{ℕ, ◌/◌, ◌%◌, min, Bool, List, [], ◌∷◌, ◌++◌, length, take, drop}
 use Rattle.base.specs.Choice.{pick}
-use Rattle.planner.specs.declared.Answer.{Answer}
-use Rattle.planner.specs.Answers.{values_of}
+use Rattle.planner.specs.Answers.{Answer, values_of}
 
 -- the numbers in their order
 unfoldable pub fields : (number place passing forced passes records word end : ℕ) → List ℕ

@@ -5,17 +5,15 @@
 --   passes         those of a forcing that refused; 0 where the plan is written
 --
 -- Assumes nothing.
-use Rattle.std.specs.Prelude.{ℕ, List}
+use Rattle.std.specs.Prelude.{ℕ, List, Ok, Err}
 use Rattle.told.specs.Told.{fields}
-use Rattle.writer.specs.declared.Written.{Written}
-use Rattle.writer.specs.declared.Written.TheVariants.{End, Refused}
-use Rattle.changer.specs.declared.Changed.{Changed}
-use Rattle.changer.specs.declared.Changed.TheVariants.{End as Ends, Refused as Stopped}
+use Rattle.writer.specs.Written.{Written}
+use Rattle.changer.specs.Changed.{Changed}
 
 abbrev pub written_told : Written → List ℕ
-written_told (End e) = fields 0 0 1 0 0 0 0 e
-written_told (Refused why) = fields why.number why.place 0 0 0 0 0 0
+written_told (Ok e) = fields 0 0 1 0 0 0 0 e
+written_told (Err why) = fields why.number why.place 0 0 0 0 0 0
 
 abbrev pub changed_told : Changed → List ℕ
-changed_told (Ends e) = fields 0 0 1 0 0 0 0 e
-changed_told (Stopped why passes) = fields why.number why.place 0 0 passes 0 0 0
+changed_told (Ok e) = fields 0 0 1 0 0 0 0 e
+changed_told (Err s) = fields s.why.number s.why.place 0 0 s.passes 0 0 0

@@ -1,5 +1,6 @@
 -- Any two results that the promise of a public function of this crate allows are equal.
 -- Assumes nothing.
+use Rattle.std.proofs.Common.{ℕ, ◌-◌, ◌≡◌, min}
 use Rattle.base.proofs.Unique.{only, Only}
 use Rattle.window.proofs.inverse_of.Kinds as inverse-of
 use Rattle.window.proofs.inverse_of.Reads as inverse-of-reads
@@ -16,3 +17,10 @@ jobs_only κs a x y s s' p q = only p q
 
 pub work_only : Only 0 work.ps work.r work-reads.Post
 work_only κs a x y s s' p q = only p q
+
+-- what the library promises of a smaller number, and of how far one number lies past another
+pub least_of_only : (a b r s : ℕ) → r ≡ min a b → s ≡ min a b → r ≡ s
+least_of_only a b r s p q = only p q
+
+pub past_only : (a b r s : ℕ) → r ≡ a - b → s ≡ a - b → r ≡ s
+past_only a b r s p q = only p q

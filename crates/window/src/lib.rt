@@ -6,6 +6,14 @@ ghost use Rattle.std.specs.Prelude.{◌≡◌, ◌+◌, ◌≤◌};
 ghost use Rattle.model.specs.Bound.{work_in};
 ghost use Rattle.window.specs.Window.{inverse_of, whole_in, Windowed};
 
+// What the works of a table's tasks are worked out from, by place: the inverse of T, T - C, and C.
+#[derive(Clone, Copy)]
+pub struct Times {
+    pub inverse: [u64; 32],
+    pub rest: [u32; 32],
+    pub cost: [u32; 32],
+}
+
 // The inverse of a period.
 pub fn inverse_of(period: u32) -> u64
     requires { 1 ≤ period }
@@ -29,5 +37,5 @@ pub fn work(inverse: u64, rest: u32, cost: u32, x: u32) -> u32
     ensures { result ≡ work_in (rest + cost) cost x }
 {
     let whole = jobs(x, inverse);
-    numbers::least_of(whole * cost + cost, x - whole * rest)
+    (whole * cost + cost).min(x - whole * rest)
 }

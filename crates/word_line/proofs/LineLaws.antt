@@ -1,12 +1,12 @@
 -- The line of a word in the parts that are written one after the other, and the text of each answer.
 -- Assumes nothing.
 use Rattle.std.proofs.Common.{ℕ, ◌+◌, ◌/◌, ◌%◌, ◌≤◌, arith, ◌≡◌, refl, sym, ap, ◌∙◌, List, [], ◌∷◌, ◌++◌}
-use Rattle.std.proofs.Common.{length}
+use Rattle.std.proofs.Common.{length, Ok, Err}
 use Rattle.table.specs.declared.Refusal.{Refusal}
 use Rattle.frames.specs.Text.{bytes_text, word_bytes}
 use Rattle.planner.specs.declared.Done.{Done}
 use Rattle.planner.specs.declared.Verdict.{Verdict}
-use Rattle.planner.specs.declared.Answer.TheVariants.{Given, Refused}
+use Rattle.planner.specs.Answers.{stop}
 use Rattle.planner.specs.declared.Job.TheVariants.{Force}
 use Rattle.planner.specs.Done.{plan_done}
 use Rattle.words.specs.Word.{word_of_done}
@@ -32,20 +32,20 @@ module _ (text : List ℕ) {d : Done} (e : d ≡ plan_done text Force 32) where
   unfolding word_text
   text_is = ap (λ (x : Done). word_by (word_of_done x) x.answer) e
 
-  pub word_given : {v : Verdict} {w : ℕ} → d.answer ≡ Given v → w ≡ word_of_done d
+  pub word_given : {v : Verdict} {w : ℕ} → d.answer ≡ Ok v → w ≡ word_of_done d
       → word_line w ≡ word_text text
   word_given said is = ap word_line is ∙ ap (word_by (word_of_done d)) (sym said) ∙ text_is
 
-  pub word_refused : {why : Refusal} {p : ℕ} → d.answer ≡ Refused why p
+  pub word_refused : {why : Refusal} {p : ℕ} → d.answer ≡ Err (stop why p)
       → refusal_line why.number why.place p ≡ word_text text
   word_refused said = ap (word_by (word_of_done d)) (sym said) ∙ text_is
 
   -- and the listing has that refusal's line too
-  pub listing_refused : {why : Refusal} {p : ℕ} → d.answer ≡ Refused why p
+  pub listing_refused : {why : Refusal} {p : ℕ} → d.answer ≡ Err (stop why p)
       → refusal_line why.number why.place p ≡ listing_of text
   unfolding listing_of
   listing_refused said = rw (← e, said)
 
-  pub refused_room : {why : Refusal} {p n : ℕ} → d.answer ≡ Refused why p → listing_room ≤ n
+  pub refused_room : {why : Refusal} {p n : ℕ} → d.answer ≡ Err (stop why p) → listing_room ≤ n
       → 0 + length (refusal_line why.number why.place p) ≤ n
   refused_room said enough = omega (arith, ap length (listing_refused said), listing_fits text)

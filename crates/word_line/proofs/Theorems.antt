@@ -7,14 +7,14 @@
 --   the digits of a word, highest first                                  word_three, word_all
 --
 -- Assumes nothing.
-use Rattle.std.proofs.Common.{◌≡◌, refl, sym, ◌∙◌, ℕ, List, take}
+use Rattle.std.proofs.Common.{◌≡◌, refl, sym, ◌∙◌, ℕ, List, take, Err}
 use Rattle.base.proofs.Unique.{OnlyWith}
 use Rattle.table.specs.declared.Refusal.{Refusal}
 use Rattle.frames.specs.Digits.{digit_text, raised}
 use Rattle.frames.specs.Text.{bytes_text, word_bytes}
 use Rattle.lines.proofs.Theorems.{reading_settled}
 use Rattle.lines.proofs.Letters.{raised_read}
-use Rattle.planner.specs.declared.Answer.TheVariants.{Refused}
+use Rattle.planner.specs.Answers.{stop}
 use Rattle.planner.specs.declared.Job.TheVariants.{Force}
 use Rattle.planner.specs.Done.{plan_done}
 use Rattle.page.specs.Words.{word}
@@ -29,7 +29,7 @@ pub word_line_only : OnlyWith 2 write.ps write.r write-reads.Post (λ κs s. s.1
 word_line_only κs a x y s s' p q = listed_only p q
 
 pub refused_as_listed : (text : List ℕ) (why : Refusal) (p : ℕ)
-    → (plan_done text Force 32).answer ≡ Refused why p → word_text text ≡ listing_of text
+    → (plan_done text Force 32).answer ≡ Err (stop why p) → word_text text ≡ listing_of text
 refused_as_listed text why p said = sym (word_refused text refl said) ∙ listing_refused text refl said
 
 pub word_settled : (text : List ℕ) → word_text (take 1004 text) ≡ word_text text

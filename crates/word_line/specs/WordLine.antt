@@ -8,10 +8,9 @@
 --   what a buffer holds then                                   WordListed
 --
 -- Assumes nothing.
-use Rattle.std.specs.Prelude.{ℕ, List, [], ◌∷◌}
+use Rattle.std.specs.Prelude.{ℕ, List, [], ◌∷◌, Ok, Err}
 use Rattle.frames.specs.Text.{bytes_text, word_bytes}
-use Rattle.planner.specs.declared.Answer.{Answer}
-use Rattle.planner.specs.declared.Answer.TheVariants.{Given, Refused}
+use Rattle.planner.specs.Answers.{Answer}
 use Rattle.planner.specs.declared.Job.TheVariants.{Force}
 use Rattle.planner.specs.Done.{plan_done}
 use Rattle.words.specs.Word.{word_of_done}
@@ -24,8 +23,8 @@ word_line w = line (word "word" ∷ bytes_text (word_bytes w) ∷ [])
 
 -- by forcing's answer
 abbrev pub word_by : ℕ → Answer → List ℕ
-word_by w (Given v) = word_line w
-word_by w (Refused why passes) = refusal_line why.number why.place passes
+word_by w (Ok v) = word_line w
+word_by w (Err s) = refusal_line s.why.number s.why.place s.passes
 
 -- the line of a plan text; 32 records are room for every table
 unfoldable pub word_text : List ℕ → List ℕ

@@ -6,7 +6,7 @@ ghost use Rattle.std.specs.Prelude.{◌≤◌, length};
 ghost use Rattle.buffer.specs.Put.{Put};
 ghost use Rattle.word_line.specs.WordLine.{word_line, WordListed};
 
-use planner::{Answer, Job};
+use planner::Job;
 
 // Every such line fits in so many bytes; it is the room of a listing.
 pub const WORD_ROOM: usize = 2048;
@@ -32,11 +32,14 @@ pub fn write_word(text: &[u8], out: &mut [u8]) -> usize
         return 0;
     }
     let done = planner::plan_done(text, Job::Force, 32);
-    let said = done.answer;
-    match said {
-        Answer::Given(_) => put_word(out, words::done_word(done)),
-        Answer::Refused { why, passes } => {
-            refusal_line::put_refusal(out, 0, why.number, why.place, passes)
-        }
+    match done.answer {
+        Ok(_) => put_word(out, words::done_word(done)),
+        Err(stop) => refusal_line::put_refusal(
+            out,
+            0,
+            stop.why.number,
+            stop.why.place,
+            stop.passes,
+        ),
     }
 }

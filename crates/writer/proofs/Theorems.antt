@@ -15,7 +15,7 @@
 -- Assumes nothing.
 use Rattle.std.proofs.Common.{ℕ, zero, suc, ◌+◌, ◌≤◌, ◌<◌, arith, ◌≡◌, refl, sym, ap, subst, ◌∙◌, Bool}
 use Rattle.std.proofs.Common.{true, false, ◌↔◌, ⊎_elim, List, ltb, length, take, drop, lt-ltb, le-ltb}
-use Rattle.std.proofs.Common.{ltb-true, ltb-false}
+use Rattle.std.proofs.Common.{ltb-true, ltb-false, Ok, Err}
 use Rattle.base.specs.Choice.{or_else}
 use Rattle.base.proofs.RowLaws.{row_is}
 use Rattle.table.specs.declared.Task.{Task}
@@ -35,8 +35,7 @@ use Rattle.buffer.specs.Put.{Put}
 use Rattle.writer.proofs.ClearedLaws.{cleared_zeros, cleared_text, cleared_legal, cleared_levels}
 use Rattle.writer.proofs.PartLaws.{put_before, put_after, put_between}
 use Rattle.buffer.proofs.PutLaws.{put_length}
-use Rattle.writer.specs.declared.Written.{Written}
-use Rattle.writer.specs.declared.Written.TheVariants.{End, Refused}
+use Rattle.writer.specs.Written.{Written}
 use Rattle.writer.specs.Written.{
   full,
   levelled,
@@ -53,7 +52,7 @@ use Rattle.writer.specs.Ways.{between, cleared}
 
 -- Which answer is given exactly when.
 
-not_end : {e : ℕ} {why : Refusal} → End e ≡ Refused why → ⊥
+not_end : {e : ℕ} {why : Refusal} → Ok e ≡ Err why → ⊥
 not_end q = let z : ◌≡◌ {A = ℕ} 0 1 = cc in omega arith
 
 too_full : (text : List ℕ) (len at : ℕ) → TooFull text len at → len < at + length text
@@ -81,7 +80,7 @@ module _ (t : Table) (len at : ℕ) where
       rw (← legal_fine legal, le-ltb len (at + length (plan_text t)) h) (by_level (unplaced t) refl)
     where
       by_level : (x : ℕ) → unplaced t ≡ x
-          → levelled ≡ or_else x (End (at + length (plan_text t))) (λ _. levelled)
+          → levelled ≡ or_else x (Ok (at + length (plan_text t))) (λ _. levelled)
       by_level zero e = absurd (other (placed_all t e))
       by_level (suc x) e = refl
   way_answer (written legal h levels) =
@@ -172,7 +171,7 @@ cleared_same t small z =
 -- What the buffer holds.
 
 module _ {t : Table} {old : List ℕ} {at : ℕ} where
-  refused_way : {why : Refusal} → Way t (length old) at (Refused why) → buffer_after t old at ≡ old
+  refused_way : {why : Refusal} → Way t (length old) at (Err why) → buffer_after t old at ≡ old
   unfolding buffer_after text_after
   refused_way (faulty w) = rw (← fault_checked w)
   refused_way (no_room legal f) =
@@ -184,18 +183,18 @@ module _ {t : Table} {old : List ℕ} {at : ℕ} where
       by_level zero e = absurd (other (placed_all t e))
       by_level (suc x) e = refl
 
-  pub refused_stays : {why : Refusal} {new : List ℕ} → WroteAs t old at (Refused why) new → new ≡ old
+  pub refused_stays : {why : Refusal} {new : List ℕ} → WroteAs t old at (Err why) new → new ≡ old
   refused_stays {why} w =
-      w.bytes ∙ refused_way ((way_exact t (length old) at (Refused why)).0 w.answer)
+      w.bytes ∙ refused_way ((way_exact t (length old) at (Err why)).0 w.answer)
 
-  module _ {e : ℕ} {new : List ℕ} (w : WroteAs t old at (End e) new) where
+  module _ {e : ℕ} {new : List ℕ} (w : WroteAs t old at (Ok e) new) where
     -- an end place: the table is legal, its levels are its places, its text has room, and stands there
     pub record Ended : Type 0 where
       pub legal : LegalTable t
       pub levels : PlaceLevels t
       pub put : Put old at (plan_text t) e new
 
-    by_way : {r : Written} → Way t (length old) at r → r ≡ End e → Ended
+    by_way : {r : Written} → Way t (length old) at r → r ≡ Ok e → Ended
     unfolding buffer_after text_after
     by_way (faulty f) q = absurd (not_end (sym q))
     by_way (no_room legal f) q = absurd (not_end (sym q))
@@ -213,7 +212,7 @@ module _ {t : Table} {old : List ℕ} {at : ℕ} where
     }
 
     pub ended : Ended
-    ended = by_way ((way_exact t (length old) at (End e)).0 w.answer) refl
+    ended = by_way ((way_exact t (length old) at (Ok e)).0 w.answer) refl
 
     pub end_within : e ≤ length new
     end_within = omega (arith, ended.put.fits, ended.put.next, put_length ended.put)
@@ -249,9 +248,9 @@ module _ {t : Table} {old : List ℕ} {at : ℕ} where
 
 -- what was read is written wherever its text has room: the answer is the end place
 pub read_fits : (text : List ℕ) (t : Table) (len at : ℕ) → read_of text ≡ accepted t → at + length text ≤ len
-    → written_answer t len at ≡ End (at + length text)
+    → written_answer t len at ≡ Ok (at + length text)
 read_fits text t len at q h =
     let w = (reading_exact text t).0 q in
     let long : length text ≡ length (plan_text t) = sym (raised_length text) ∙ ap length w.same in
     sym ((way_exact t len at _).1 (written w.legal (omega arith) w.levels))
-    ∙ ap (λ n. End (at + n)) (sym long)
+    ∙ ap (λ n. Ok (at + n)) (sym long)

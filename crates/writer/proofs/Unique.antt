@@ -6,8 +6,7 @@ use contract.Lifetimes.{Lfts}
 use denote.Triple.Clauses.{AtExit}
 use Rattle.base.proofs.Unique.{only}
 use Rattle.table.specs.declared.Table.{Table}
-use Rattle.writer.specs.declared.Written.{Written}
-use Rattle.writer.specs.Written.{WroteAs}
+use Rattle.writer.specs.Written.{Written, WroteAs}
 use Rattle.writer.proofs.write_plan.Kinds as write-plan
 use Rattle.writer.proofs.write_plan.Reads as write-plan-reads
 use Rattle.writer.proofs.write_list.Kinds as write-list

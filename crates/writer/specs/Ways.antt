@@ -12,16 +12,14 @@
 --   the same table, with zeros in all places past the n-th       cleared t
 --
 -- Assumes nothing.
-use Rattle.std.specs.Prelude.{ℕ, ◌+◌, ◌-◌, ◌≤◌, ◌<◌, List, length, take, drop}
+use Rattle.std.specs.Prelude.{ℕ, ◌+◌, ◌-◌, ◌≤◌, ◌<◌, List, length, take, drop, Ok, Err}
 use Rattle.base.specs.Rows.{row}
 use Rattle.table.specs.declared.Table.{Table}
 use Rattle.table.specs.Table.{no_task, task_at, LegalTable}
 use Rattle.table.specs.Checks.{refusal}
 use Rattle.table.specs.Faults.{TableWrong}
 use Rattle.lines.specs.Writes.{plan_text, PlaceLevels}
-use Rattle.writer.specs.declared.Written.{Written}
-use Rattle.writer.specs.declared.Written.TheVariants.{End, Refused}
-use Rattle.writer.specs.Written.{full, levelled}
+use Rattle.writer.specs.Written.{Written, full, levelled}
 
 -- the text does not fit into len bytes from the place on
 pub data TooFull (text : List ℕ) (len at : ℕ) : Type 0 where
@@ -29,11 +27,11 @@ pub data TooFull (text : List ℕ) (len at : ℕ) : Type 0 where
   short : at ≤ len → len - at < length text → TooFull text len at
 
 pub data Way (t : Table) (len at : ℕ) : Written → Type 0 where
-  faulty : {f p : ℕ} → TableWrong t f p → Way t len at (Refused (refusal f p))
+  faulty : {f p : ℕ} → TableWrong t f p → Way t len at (Err (refusal f p))
   no_room : LegalTable t → TooFull (plan_text t) len at → Way t len at full
   other_levels : LegalTable t → at + length (plan_text t) ≤ len → (PlaceLevels t → ⊥) → Way t len at levelled
   written : LegalTable t → at + length (plan_text t) ≤ len → PlaceLevels t
-      → Way t len at (End (at + length (plan_text t)))
+      → Way t len at (Ok (at + length (plan_text t)))
 
 abbrev pub between : ℕ → ℕ → List ℕ → List ℕ
 between at end s = take (end - at) (drop at s)

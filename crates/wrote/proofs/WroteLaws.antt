@@ -7,12 +7,10 @@ use Rattle.flat_tasks.specs.FlatTasks.{count_in, tasks_in}
 use Rattle.lines.specs.Writes.{plan_text, PlaceLevels}
 use Rattle.told.specs.Told.{told_after}
 use Rattle.told_plans.specs.PlanNumbers.{written_told, changed_told}
-use Rattle.writer.specs.declared.Written.{Written}
-use Rattle.writer.specs.Written.{table_from, full, levelled, WroteAs}
+use Rattle.writer.specs.Written.{Written, table_from, full, levelled, WroteAs}
 use Rattle.writer.specs.Ways.{TooFull}
 use Rattle.writer.proofs.Theorems as writer
-use Rattle.changer.specs.declared.Changed.{Changed}
-use Rattle.changer.specs.Changed.{ChangedAs}
+use Rattle.changer.specs.Changed.{Changed, ChangedAs}
 use Rattle.wrote.specs.Wrote.{Wrote, TasksWrote, PlanChanged}
 
 -- the list that is told is the one that is said

@@ -15,7 +15,8 @@ answered-said-requires c =
 
 pub put_said-requires : goal.put_said-requires
 put_said-requires c =
-    flat_fits _ _ _ (plan_is _ c.load_plan-loaded.ensures _ _ c.answered-said.ensures) (plan_small _ _ _)
+    rw c.unwrap_or.ensures
+    (flat_fits _ _ _ (plan_is _ c.load_plan-loaded.ensures _ _ c.answered-said.ensures) (plan_small _ _ _))
 
 pub word_of-requires : goal.word_of-requires
 word_of-requires c =
@@ -24,4 +25,4 @@ word_of-requires c =
 pub returns : goal.returns
 returns c =
     asked_as _ _ _ (plan_is _ c.load_plan-loaded.ensures _ _ c.answered-said.ensures) (plan_small _ _ _) _
-    c.put_said.ensures c.word_of.ensures
+    (rw c.unwrap_or.ensures at c.put_said.ensures) c.word_of.ensures

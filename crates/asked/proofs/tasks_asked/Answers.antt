@@ -17,8 +17,9 @@ answered-said-requires c =
 pub put_said-requires : goal.put_said-requires
 put_said-requires c =
     let xs = c.args.tasks.now in
-    flat_fits _ _ _ (list_is _ _ _ xs c.load_list-loaded.ensures _ _ c.answered-said.ensures)
-    (list_small _ _ _ _ _ _)
+    rw c.unwrap_or.ensures
+    (flat_fits _ _ _ (list_is _ _ _ xs c.load_list-loaded.ensures _ _ c.answered-said.ensures)
+    (list_small _ _ _ _ _ _))
 
 pub word_of-requires : goal.word_of-requires
 word_of-requires c =
@@ -30,4 +31,4 @@ pub returns : goal.returns
 returns c =
     let xs = c.args.tasks.now in
     asked_as _ _ _ (list_is _ _ _ xs c.load_list-loaded.ensures _ _ c.answered-said.ensures)
-    (list_small _ _ _ _ _ _) _ c.put_said.ensures c.word_of.ensures
+    (list_small _ _ _ _ _ _) _ (rw c.unwrap_or.ensures at c.put_said.ensures) c.word_of.ensures

@@ -11,23 +11,23 @@ use Rattle.asked_in.proofs.plan_asked_in.Goals as goal
 pub load_plan-loaded-requires : goal.load_plan-loaded-requires
 load_plan-loaded-requires c = record { inverse = refl; rest = refl; cost = refl; reach = refl }
 
-pub answered_in-told-requires : goal.answered_in-told-requires
-answered_in-told-requires c =
+pub answered_in-rounds-requires : goal.answered_in-rounds-requires
+answered_in-rounds-requires c =
     (plan_rows _ c.load_plan-loaded.ensures, refl)
 
 pub put_said-requires : goal.put_said-requires
 put_said-requires c =
-    flat_fits _ _ _
+    rw c.unwrap_or.ensures (flat_fits _ _ _
     (ap (λ (x : Rounded). x.done)
-    (plan_found _ c.load_plan-loaded.ensures _ _ _ c.answered_in-told.ensures))
-    (plan_in_small _ _ _ _)
+    (plan_found _ c.load_plan-loaded.ensures _ _ _ c.answered_in-rounds.ensures))
+    (plan_in_small _ _ _ _))
 
 pub word_of-requires : goal.word_of-requires
 word_of-requires c =
-    few_in _ _ _ (plan_found _ c.load_plan-loaded.ensures _ _ _ c.answered_in-told.ensures)
+    few_in _ _ _ (plan_found _ c.load_plan-loaded.ensures _ _ _ c.answered_in-rounds.ensures)
     (plan_in_small _ _ _ _)
 
 pub returns : goal.returns
 returns c =
-    asked_in _ _ _ (plan_found _ c.load_plan-loaded.ensures _ _ _ c.answered_in-told.ensures)
-    (plan_in_small _ _ _ _) _ c.put_said.ensures c.word_of.ensures
+    asked_in _ _ _ (plan_found _ c.load_plan-loaded.ensures _ _ _ c.answered_in-rounds.ensures)
+    (plan_in_small _ _ _ _) _ (rw c.unwrap_or.ensures at c.put_said.ensures) c.word_of.ensures

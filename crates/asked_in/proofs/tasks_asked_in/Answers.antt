@@ -11,27 +11,27 @@ use Rattle.asked_in.proofs.tasks_asked_in.Goals as goal
 pub load_list-loaded-requires : goal.load_list-loaded-requires
 load_list-loaded-requires c = record { inverse = refl; rest = refl; cost = refl; reach = refl }
 
-pub answered_in-told-requires : goal.answered_in-told-requires
-answered_in-told-requires c =
+pub answered_in-rounds-requires : goal.answered_in-rounds-requires
+answered_in-rounds-requires c =
     let xs = c.args.tasks.now in
     (list_rows _ _ _ xs c.load_list-loaded.ensures, refl)
 
 pub put_said-requires : goal.put_said-requires
 put_said-requires c =
     let xs = c.args.tasks.now in
-    flat_fits _ _ _
+    rw c.unwrap_or.ensures (flat_fits _ _ _
     (ap (λ (x : Rounded). x.done)
-    (list_found _ _ _ xs c.load_list-loaded.ensures _ _ _ c.answered_in-told.ensures))
-    (list_in_small _ _ _ _ _ _ _)
+    (list_found _ _ _ xs c.load_list-loaded.ensures _ _ _ c.answered_in-rounds.ensures))
+    (list_in_small _ _ _ _ _ _ _))
 
 pub word_of-requires : goal.word_of-requires
 word_of-requires c =
     let xs = c.args.tasks.now in
-    few_in _ _ _ (list_found _ _ _ xs c.load_list-loaded.ensures _ _ _ c.answered_in-told.ensures)
+    few_in _ _ _ (list_found _ _ _ xs c.load_list-loaded.ensures _ _ _ c.answered_in-rounds.ensures)
     (list_in_small _ _ _ _ _ _ _)
 
 pub returns : goal.returns
 returns c =
     let xs = c.args.tasks.now in
-    asked_in _ _ _ (list_found _ _ _ xs c.load_list-loaded.ensures _ _ _ c.answered_in-told.ensures)
-    (list_in_small _ _ _ _ _ _ _) _ c.put_said.ensures c.word_of.ensures
+    asked_in _ _ _ (list_found _ _ _ xs c.load_list-loaded.ensures _ _ _ c.answered_in-rounds.ensures)
+    (list_in_small _ _ _ _ _ _ _) _ (rw c.unwrap_or.ensures at c.put_said.ensures) c.word_of.ensures

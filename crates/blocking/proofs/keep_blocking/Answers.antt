@@ -9,27 +9,22 @@ use Rattle.blocking.proofs.keep_blocking.Goals as goal
 
 pub returns-then-head-eq0 : goal.returns-then-head-eq0
 returns-then-head-eq0 c =
-    let s = c in
-    (empty_size s.requires.3, edf_kept _ _ _ _ _ _ _ _ s.requires.0 s.requires.3 c.if-head-eq0.true)
+    (empty_size c.requires.3, edf_kept _ _ _ _ _ _ _ _ c.requires.0 c.requires.3 c.if-head-eq0.true)
 
 pub returns-then-flag_at-ne0 : goal.returns-then-flag_at-ne0
 returns-then-flag_at-ne0 c =
-    let s = c in
-    let a = s.args in (
-      empty_size s.requires.3,
+    let a = c.args in (
+      empty_size c.requires.3,
       preemptive_kept a.head.policy (higher_at a.head.levels) (at a.cost.now)
-          (flag_in a.flags) a.k _ _ _ s.requires.0 s.requires.3
+          (flag_in a.flags) a.k _ _ _ c.requires.0 c.requires.3
           (λ z. c.if-flag_at-ne0.true (c.flag_at.ensures ∙ z)),
     )
 
 pub returns : goal.returns
 returns c =
-    let listed = c in
-    let read = listed in
-    let a = read.args in (
+    let a = c.args in (
       c.keep_largest.ensures.0,
       blocking_kept a.head.policy (higher_at a.head.levels) (at a.cost.now)
-          (flag_in a.flags) a.k _ _ read.if-head-eq0.false
-          (sym read.flag_at.ensures ∙ listed.if-flag_at-ne0.false)
-          listed.candidates.ensures c.keep_largest.ensures.1,
+          (flag_in a.flags) a.k _ _ c.if-head-eq0.false (sym c.flag_at.ensures ∙ c.if-flag_at-ne0.false)
+          c.candidates.ensures c.keep_largest.ensures.1,
     )

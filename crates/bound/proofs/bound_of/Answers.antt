@@ -7,60 +7,37 @@ use Rattle.bound.proofs.SearchLaws.{search_small}
 use Rattle.bound.proofs.bound_of.Goals as goal
 
 pub ahead_of-ahead-requires : goal.ahead_of-ahead-requires
-ahead_of-ahead-requires c =
-    let s = c in
-    (s.requires.0.each s.args.k s.requires.1).time
+ahead_of-ahead-requires c = (c.args.rows.now.legal.each c.args.k c.requires.0).time
 
 pub overflow_add-last : goal.overflow_add-last
-overflow_add-last c =
-    let s = c in
-    let own = s.requires.0.each s.args.k s.requires.1 in
-    omega (arith, own.deadline, own.period)
+overflow_add-last c = omega (arith, c.args.rows.now.legal.each c.args.k c.requires.0)
 
 pub least_q-q-requires : goal.least_q-q-requires
 least_q-q-requires c =
-    let made = c in
-    let read = made in
-    let caps = read in
-    let s = caps in
-    let fl = flag_in s.args.flags in (
-      rows_searchable s.requires.0 fl s.args.k s.requires.1 caps.caps_of-used.ensures
-          read.flag_at.ensures made.ahead_of-ahead.ensures,
-      rows_sooner s.requires.0 fl s.args.k s.requires.1 caps.caps_of-used.ensures read.flag_at.ensures
-          made.ahead_of-ahead.ensures s.requires.2,
+    let fl = flag_in c.args.flags in (
+      rows_searchable c.args.rows.now.legal fl c.args.k c.requires.0 c.caps_of-used.ensures
+          c.flag_at.ensures c.ahead_of-ahead.ensures,
+      rows_sooner c.args.rows.now.legal fl c.args.k c.requires.0 c.caps_of-used.ensures c.flag_at.ensures
+          c.ahead_of-ahead.ensures c.requires.1,
     )
 
 pub returns-then-q-eq0 : goal.returns-then-q-eq0
 returns-then-q-eq0 c =
-    let made = c in
-    let read = made in
-    let caps = read in
-    let s = caps in
-    search_none s.requires.0 (flag_in s.args.flags) s.args.k s.requires.1 caps.caps_of-used.ensures
-    read.flag_at.ensures made.ahead_of-ahead.ensures c.least_q-q.ensures c.if-q-eq0.true
+    search_none c.args.rows.now.legal (flag_in c.args.flags) c.args.k c.requires.0 c.caps_of-used.ensures
+    c.flag_at.ensures c.ahead_of-ahead.ensures c.least_q-q.ensures c.if-q-eq0.true
 
 pub overflow_sub-result : goal.overflow_sub-result
-overflow_sub-result c =
-    let s = c in
-    (s.requires.0.each s.args.k s.requires.1).time
+overflow_sub-result c = (c.args.rows.now.legal.each c.args.k c.requires.0).time
 
 pub overflow_add-result : goal.overflow_add-result
 overflow_add-result c =
-    let made = c in
-    let read = made in
-    let caps = read in
-    let s = caps in
     omega (
       arith,
-      search_small s.requires.0 (flag_in s.args.flags) s.args.k s.requires.1 caps.caps_of-used.ensures
-          read.flag_at.ensures made.ahead_of-ahead.ensures c.least_q-q.ensures c.if-q-eq0.false,
+      search_small c.args.rows.now.legal (flag_in c.args.flags) c.args.k c.requires.0 c.caps_of-used.ensures
+          c.flag_at.ensures c.ahead_of-ahead.ensures c.least_q-q.ensures c.if-q-eq0.false,
     )
 
 pub returns : goal.returns
 returns c =
-    let made = c in
-    let read = made in
-    let caps = read in
-    let s = caps in
-    search_found s.requires.0 (flag_in s.args.flags) s.args.k s.requires.1 caps.caps_of-used.ensures
-    read.flag_at.ensures made.ahead_of-ahead.ensures c.least_q-q.ensures c.if-q-eq0.false
+    search_found c.args.rows.now.legal (flag_in c.args.flags) c.args.k c.requires.0 c.caps_of-used.ensures
+    c.flag_at.ensures c.ahead_of-ahead.ensures c.least_q-q.ensures c.if-q-eq0.false

@@ -1,6 +1,5 @@
 -- `candidates::candidates` meets its contract. The loop's invariant: the places passed hold their candidates.
 -- Assumes nothing.
-use Rattle.std.proofs.Common.{◌-◌, ◌≤◌}
 use Rattle.base.specs.Rows.{at}
 use Rattle.model.specs.Bound.{FP}
 use Rattle.flags.specs.Flags.{flag_in}
@@ -11,8 +10,5 @@ use Rattle.candidates.proofs.candidates.Given as goal
 
 abbrev pub invariant-loop-i : goal.invariant-loop-i
 invariant-loop-i l =
-    (l.i ≤ l.n) × (Filled (λ j. block_for FP 0 (flag_in l.flags j) (higher_at l.levels l.k j) (at l.cost j))
-    l.initial.x l.x l.i)
-
-abbrev pub decreases-loop-i : goal.decreases-loop-i
-decreases-loop-i l = l.n - l.i
+    Filled (λ j. block_for FP 0 (flag_in l.flags j) (higher_at l.levels l.k j) (at l.cost j)) l.initial.x l.x
+    l.i

@@ -7,27 +7,8 @@ use Rattle.changer.proofs.with_flags.Goals as goal
 pub loop-i-init : goal.loop-i-init
 loop-i-init c = flagging_start _ _ c.requires.count
 
-pub offset_bounds-t-i : goal.offset_bounds-t-i
-offset_bounds-t-i c = omega (arith, c.loop-i.invariant.count)
-
-pub bounds-t-i : goal.bounds-t-i
-bounds-t-i c = omega (arith, c.loop-i.invariant.count)
-
-pub offset_bounds-recs-i : goal.offset_bounds-recs-i
-offset_bounds-recs-i c = omega (arith, c.loop-i.invariant.count)
-
-pub bounds-recs-i : goal.bounds-recs-i
-bounds-recs-i c = omega (arith, c.loop-i.invariant.count)
-
-pub offset_bounds-tasks-i : goal.offset_bounds-tasks-i
-offset_bounds-tasks-i c = omega (arith, c.loop-i.invariant.count)
-
-pub bounds-tasks-i : goal.bounds-tasks-i
-bounds-tasks-i c = omega (arith, c.loop-i.invariant.count)
-
 pub loop-i-preserved : goal.loop-i-preserved
-loop-i-preserved c =
-    flagging_step _ _ c.loop-i.invariant c.loop-i-test.true
+loop-i-preserved c = flagging_step _ _ c.loop-i.invariant c.loop-i-test.true
 
 pub returns : goal.returns
 returns c = flagging_end _ _ c.loop-i.invariant (omega arith)

@@ -4,8 +4,7 @@ use Rattle.changer.proofs.Theorems.{end_within}
 use Rattle.desk.proofs.apply.Goals as goal
 
 pub slice_bounds-out-end : goal.slice_bounds-out-end
-slice_bounds-out-end c =
-    omega (arith, end_within c.in-End.ensures refl)
+slice_bounds-out-end c = omega (arith, end_within c.in-Ok.ensures refl)
 
 pub slice_bounds-write_all-end : goal.slice_bounds-write_all-end
-slice_bounds-write_all-end c = sym (length-take-le _ _ (omega (arith, end_within c.in-End.ensures refl)))
+slice_bounds-write_all-end c = sym (length-take-le _ _ (omega (arith, end_within c.in-Ok.ensures refl)))

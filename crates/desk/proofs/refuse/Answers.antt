@@ -1,5 +1,5 @@
 -- `desk::refuse` is safe: the refusal's line fits into the buffer. Assumes nothing.
-use Rattle.std.proofs.Common.{arith, sym, length-take-le, rules}
+use Rattle.std.proofs.Common.{arith, rules}
 use Rattle.listing.proofs.FitLaws.{refusal_fits}
 use Rattle.desk.proofs.refuse.Goals as goal
 
@@ -10,6 +10,3 @@ put_refusal-n-requires c =
       arith,
       refusal_fits a.number a.place a.passes (search rules) (search rules) (search rules),
     )
-
-pub slice_bounds-write_all-end : goal.slice_bounds-write_all-end
-slice_bounds-write_all-end c = sym (length-take-le _ _ (omega arith))

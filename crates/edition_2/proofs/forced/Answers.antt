@@ -9,16 +9,15 @@ use Rattle.edition_2.proofs.SecondLaws.{force_second_refused, force_second_lem}
 use Rattle.edition_2.proofs.forced.Goals as goal
 
 pub force_rounds-end-requires : goal.force_rounds-end-requires
-force_rounds-end-requires c =
-    let pre = c.requires in (pre.0, pre.1, ends_empty pre.0.count pre.2)
+force_rounds-end-requires c = (c.requires.0, ends_empty c.args.rows.now.legal.count c.requires.1)
 
-pub returns-then-failing-ne0 : goal.returns-then-failing-ne0
-returns-then-failing-ne0 c t legal is_rows is_sent =
+pub returns-then-end-ne0 : goal.returns-then-end-ne0
+returns-then-end-ne0 c t legal is_rows is_sent =
     ap unrounded (said_refused _ _ c.unsaid.ensures)
-    ∙ force_second_refused legal is_sent is_rows _ _ c.force_rounds-end.ensures c.if-failing-ne0.true
+    ∙ force_second_refused legal is_sent is_rows _ _ c.force_rounds-end.ensures c.if-end-ne0.true
 
 pub returns : goal.returns
 unfolding said_done
 returns c t legal is_rows is_sent =
-    force_second_lem legal is_sent is_rows _ _ c.force_rounds-end.ensures c.if-failing-ne0.false
+    force_second_lem legal is_sent is_rows _ _ c.force_rounds-end.ensures c.if-end-ne0.false
     c.count_changed.ensures refl

@@ -7,11 +7,7 @@ use Rattle.edition_2.proofs.SecondLaws.{test_second_lem}
 use Rattle.edition_2.proofs.tested.Goals as goal
 
 pub test_rounds-rounds-requires : goal.test_rounds-rounds-requires
-test_rounds-rounds-requires c =
-    (c.requires.0, ends_empty c.requires.0.count c.requires.1)
-
-pub failing_of-requires : goal.failing_of-requires
-failing_of-requires c = c.requires.0.count
+test_rounds-rounds-requires c = ends_empty c.args.rows.now.legal.count c.requires
 
 pub returns : goal.returns
 unfolding said_done

@@ -4,21 +4,10 @@ use Rattle.std.proofs.Common.{sym, ap, subst, ◌∙◌}
 use Rattle.table.specs.Table.{LegalTable}
 use Rattle.lines.specs.declared.Reading.{Reading}
 use Rattle.lines.proofs.Theorems.{read_legal}
-use Rattle.fewest.proofs.StageLaws.{plan_fine, plan_faulty}
 use Rattle.fewest.proofs.plan_fewest.Goals as goal
 
 pub room_fewest-requires : goal.room_fewest-requires
 room_fewest-requires c =
     let r = c.read_plan-reading.ensures in
     subst (λ (x : Reading). LegalTable x.table) (sym r)
-    (read_legal _ (ap (λ (x : Reading). x.answer) (sym r) ∙ c.in-Fine.is))
-
-pub returns-in-Fine : goal.returns-in-Fine
-returns-in-Fine c =
-    c.room_fewest.ensures
-    ∙ plan_fine _ c.read_plan-reading.ensures _ c.in-Fine.is
-
-pub returns-in-Refused : goal.returns-in-Refused
-returns-in-Refused c =
-    c.refused.ensures
-    ∙ plan_faulty _ c.read_plan-reading.ensures _ c.in-Refused.is
+    (read_legal _ (ap (λ (x : Reading). x.answer) (sym r) ∙ c.in-Ok.is))

@@ -5,13 +5,10 @@ use Rattle.fewest_listing.proofs.FoundLaws.{line_parts, line_length_lem}
 use Rattle.fewest_listing.proofs.put_cores.Goals as goal
 
 pub put_field-a-requires : goal.put_field-a-requires
-put_field-a-requires c =
-    omega (arith, line_length_lem c.args.cores)
+put_field-a-requires c = omega (arith, line_length_lem c.args.cores)
 
 pub put-requires : goal.put-requires
-put-requires c =
-    omega (arith, line_length_lem c.args.cores)
+put-requires c = omega (arith, line_length_lem c.args.cores)
 
 pub returns : goal.returns
-returns c =
-    rw line_parts (put_then c.put_field-a.ensures c.put.ensures)
+returns c = rw line_parts (put_then c.put_field-a.ensures c.put.ensures)

@@ -1,5 +1,6 @@
 -- `flags::last_lacking` meets its contract: the highest bit that is set.
 -- Assumes nothing.
+use Rattle.std.proofs.Common.{arith}
 use lib.Count.{leading_le}
 use Rattle.flags.specs.Flags.{flag_in}
 use Rattle.flags.proofs.OpLaws.{last_word}
@@ -10,4 +11,4 @@ overflow_sub-result c = leading_le 32 _
 
 pub returns : goal.returns
 unfolding flag_in
-returns c = last_word _ _ c.struct_known-1.given.0.fits c.struct_known-2-1.given.0.fits
+returns c = last_word c.args.flags.word c.args.failing.word (omega arith) (omega arith)

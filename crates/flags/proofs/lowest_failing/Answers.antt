@@ -15,4 +15,4 @@ overflow_add-result c = omega (arith, trailing_le 32 c.args.failing.word)
 
 pub returns : goal.returns
 unfolding flag_in
-returns c = lowest_word _ c.if-failing-eq0.false c.struct_known-2-1.given.0.fits
+returns c = lowest_word c.args.failing.word c.if-failing-eq0.false (omega arith)

@@ -1,4 +1,4 @@
--- `flat_tasks::tasks_in` meets its contract: what is left to show beside the invariants.
+-- `flat_tasks::tasks_in` meets its contract: what is left to show beside the invariant.
 -- Assumes nothing.
 use Rattle.std.proofs.Common.{arith}
 use Rattle.table.specs.Table.{no_task}
@@ -7,18 +7,11 @@ use Rattle.flat_tasks.specs.FlatTasks.{tasks_in}
 use Rattle.flat_tasks.proofs.tasks_in.Goals as goal
 
 pub loop-i-init : goal.loop-i-init
-loop-i-init c = (c.shown_in-n.ensures, omega arith, fill_start no_task _)
+loop-i-init c = fill_start no_task _
 
 pub loop-i-preserved : goal.loop-i-preserved
-loop-i-preserved c = (
-  c.loop-i.invariant.0,
-  omega arith,
-  fill_step no_task _ (omega (arith, c.loop-i.invariant.0)) c.loop-i.invariant.2
-      c.task_in.ensures,
-)
+loop-i-preserved c = fill_step no_task _ (omega arith) c.loop-i.invariant c.task_in.ensures
 
 pub returns : goal.returns
 unfolding tasks_in
-returns c =
-    let inv = c.loop-i.invariant in
-    fill_end no_task _ inv.2 (omega (arith, inv.0))
+returns c = fill_end no_task _ c.loop-i.invariant (omega arith)

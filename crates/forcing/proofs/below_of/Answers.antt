@@ -11,20 +11,14 @@ pub returns-then-head-eq0 : goal.returns-then-head-eq0
 returns-then-head-eq0 c = below_edf _ _ _ c.if-head-eq0.true
 
 pub loop-i-init : goal.loop-i-init
-loop-i-init c = (omega arith, deepest_start _ _)
+loop-i-init c = deepest_start _ _
 
 pub loop-i-preserved : goal.loop-i-preserved
 loop-i-preserved c =
-    let g = c.args in (
-      omega (arith, c.loop-i-test.true),
-      deepest_read (level_in g.head.levels) (flag_in g.flags) (flag_in g.failing)
-          c.loop-i.i c.loop-i.invariant.1 c.deeper-below.ensures
-          c.level_at-level.ensures c.flag_at.ensures
-          c.flag_at-in-loop-i.ensures,
-    )
+    deepest_read (level_in c.args.head.levels) (flag_in c.args.flags) (flag_in c.args.failing) c.loop-i.i
+    c.loop-i.invariant c.deeper-below.ensures c.level_at-level.ensures c.flag_at.ensures
+    c.flag_at-in-loop-i.ensures
 
 pub returns : goal.returns
 returns c =
-    let inv = c.loop-i.invariant in
-    below_fp _ _ _ c.if-head-eq0.false
-    (inv.1 ∙ ap (deepest _ _) (omega (arith, inv.0, c.loop-i-test.false)))
+    below_fp _ _ _ c.if-head-eq0.false (c.loop-i.invariant ∙ ap (deepest _ _) (omega arith))

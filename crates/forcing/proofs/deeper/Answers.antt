@@ -1,19 +1,17 @@
 -- `forcing::deeper` meets its contract: by the tests on the way.
 -- Assumes nothing.
-use Rattle.std.proofs.Common.{arith}
 use Rattle.forcing.proofs.DeepLaws.{deepen_non, deepen_not, deepen_max}
 use Rattle.forcing.proofs.deeper.Goals as goal
+use Rattle.forcing.proofs.deeper.Goals.{else-flag-ne0-via-then-flag-ne0+else-failed-eq0}
+use Rattle.forcing.proofs.deeper.Goals.{else-flag-ne0-via-else-flag-ne0}
 
-pub returns-then-flag-eq0 : goal.returns-then-flag-eq0
-returns-then-flag-eq0 c = deepen_non _ _ _ c.if-flag-eq0.true
+pub returns-then-failed-eq0 : goal.returns-then-failed-eq0
+returns-then-failed-eq0 c =
+    deepen_max _ _ c.if-flag-ne0.true c.if-failed-eq0.true c.max.ensures
 
-pub returns-then-failed-ne0 : goal.returns-then-failed-ne0
-returns-then-failed-ne0 c = deepen_not _ _ _ c.if-failed-ne0.true
-
-pub returns-then-below-level : goal.returns-then-below-level
-returns-then-below-level c =
-    deepen_max _ _ c.if-flag-eq0.false c.if-failed-ne0.false (omega (arith, c.if-below-level.true))
-
-pub returns-else-below-level : goal.returns-else-below-level
-returns-else-below-level c =
-    deepen_max _ _ c.if-flag-eq0.false c.if-failed-ne0.false (omega (arith, c.if-below-level.false))
+pub returns-else-flag-ne0 : goal.returns-else-flag-ne0
+returns-else-flag-ne0 c =
+    elim c.else-flag-ne0.branch [
+      | else-flag-ne0-via-then-flag-ne0+else-failed-eq0 w ↦ deepen_not _ _ _ w.if-failed-eq0.false
+      | else-flag-ne0-via-else-flag-ne0 w ↦ deepen_non _ _ _ w.if-flag-ne0.false
+    ]

@@ -6,47 +6,31 @@ use Rattle.forcing.proofs.PassingLaws.{passing_ends, passing_done, passing_falls
 use Rattle.forcing.proofs.force_rows.Goals as goal
 
 pub loop-failing-init : goal.loop-failing-init
-loop-failing-init c = passing_start (rows_sized c.requires.0) c.requires.1 c.requires.2
-
-pub search_on-requires : goal.search_on-requires
-search_on-requires c =
-    let inv = c.loop-failing.invariant in
-    (c.requires.0, inv.floors)
-
-pub failing_of-failing-requires : goal.failing_of-failing-requires
-failing_of-failing-requires c = c.requires.0.count
+loop-failing-init c = passing_start (rows_sized c.args.rows.now.legal) c.requires.0 c.requires.1
 
 pub search_rest-requires : goal.search_rest-requires
-search_rest-requires c = (
-  c.requires.0,
-  passing_ends (rows_sized c.requires.0) c.loop-failing.invariant c.search_on.ensures
-      c.failing_of-failing.ensures c.last_lacking-last.ensures c.if-last-eq0.true,
-)
-
-pub failing_of-left-requires : goal.failing_of-left-requires
-failing_of-left-requires c =
-    c.requires.0.count
+search_rest-requires c =
+    passing_ends (rows_sized c.args.rows.now.legal) c.loop-failing.invariant c.search_on.ensures
+    c.failing_of-failing.ensures c.last_lacking-last.ensures c.if-last-eq0.true
 
 pub returns-then-last-eq0 : goal.returns-then-last-eq0
 returns-then-last-eq0 c =
-    let turn = c in
-    let s = turn in
-    passing_done (rows_sized s.requires.0) turn.loop-failing.invariant c.search_on.ensures
+    passing_done (rows_sized c.args.rows.now.legal) c.loop-failing.invariant c.search_on.ensures
     c.failing_of-failing.ensures c.last_lacking-last.ensures c.if-last-eq0.true
     c.search_rest.ensures c.failing_of-left.ensures c.lowest_failing.ensures
 
 pub overflow_add-passes : goal.overflow_add-passes
 overflow_add-passes c =
-    omega (arith, passing_small (rows_sized c.requires.0) c.loop-failing.invariant)
+    omega (arith, passing_small (rows_sized c.args.rows.now.legal) c.loop-failing.invariant)
 
 pub loop-failing-smaller : goal.loop-failing-smaller
 loop-failing-smaller c =
-    passing_falls (rows_sized c.requires.0) c.loop-failing.invariant c.search_on.ensures
+    passing_falls (rows_sized c.args.rows.now.legal) c.loop-failing.invariant c.search_on.ensures
     c.failing_of-failing.ensures c.last_lacking-last.ensures c.if-last-eq0.false
-    c.with_failing-next.ensures
+    c.with_failing-flags.ensures
 
 pub loop-failing-preserved : goal.loop-failing-preserved
 loop-failing-preserved c =
-    passing_more (rows_sized c.requires.0) c.loop-failing.invariant c.search_on.ensures
+    passing_more (rows_sized c.args.rows.now.legal) c.loop-failing.invariant c.search_on.ensures
     c.failing_of-failing.ensures c.last_lacking-last.ensures c.if-last-eq0.false
-    c.with_failing-next.ensures c.args.head.policy refl c.below_of-below.ensures
+    c.with_failing-flags.ensures c.args.rows.now.head.policy refl c.below_of-below.ensures

@@ -5,15 +5,15 @@
 use Rattle.base.specs.Sums.{sum_to}
 use Rattle.flags.specs.Flags.{flag_in}
 use Rattle.rows.specs.Levels.{level_in}
-use Rattle.rows.specs.Held.{system_in}
+use Rattle.rows.specs.Whole.{system_held}
 use Rattle.forcing.proofs.StartLaws.{Passing}
 use Rattle.forcing.proofs.force_rows.Given as goal
 
 abbrev pub invariant-loop-failing : goal.invariant-loop-failing
 invariant-loop-failing l =
-    Passing (system_in l.head l.rest l.cost l.reach) (level_in l.head.levels) l.initial.flags l.flags l.below
+    Passing (system_held l.rows) (level_in l.rows.head.levels) l.initial.flags l.flags l.below
     l.bounds l.passes
 
 abbrev pub decreases-loop-failing : goal.decreases-loop-failing
 decreases-loop-failing l =
-    sum_to (flag_in l.flags) l.head.n
+    sum_to (flag_in l.flags) l.rows.head.n

@@ -7,6 +7,4 @@ pub bounds-out-at-2 : goal.bounds-out-at-2
 bounds-out-at-2 c = simp length-set (omega arith)
 
 pub returns : goal.returns
-returns c =
-    let s = c in
-    byte_put _ _ _ _ _ s.requires c.letter.ensures c.letter-2.ensures
+returns c = byte_put _ _ _ _ _ c.requires c.letter.ensures c.letter-2.ensures

@@ -6,18 +6,18 @@ use Rattle.lines.proofs.FormLaws.{form1_sized}
 use Rattle.lines.proofs.ReadLaws.{head_unfit, head_fit, head_due}
 use Rattle.front_reader.proofs.read_front.Goals as goal
 
-pub returns-in-Unfit : goal.returns-in-Unfit
-returns-in-Unfit c =
+pub returns-in-Err : goal.returns-in-Err
+returns-in-Err c =
     c.stopped.ensures
-    ∙ head_unfit form1 _ _ c.in-Unfit.ensures _ refl
+    ∙ head_unfit form1 _ _ c.in-Err.ensures _ refl
 
 pub read_tasks-requires : goal.read_tasks-requires
 read_tasks-requires c = (
   search rules,
-  head_due form1 _ _ c.in-Fit.ensures _ refl form1_sized,
+  head_due form1 _ _ c.in-Ok.ensures _ refl form1_sized,
 )
 
-pub returns-in-Fit : goal.returns-in-Fit
-returns-in-Fit c =
+pub returns-in-Ok : goal.returns-in-Ok
+returns-in-Ok c =
     c.read_tasks.ensures
-    ∙ head_fit form1 _ _ c.in-Fit.ensures _ refl
+    ∙ head_fit form1 _ _ c.in-Ok.ensures _ refl

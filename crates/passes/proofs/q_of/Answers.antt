@@ -1,10 +1,8 @@
--- `passes::q_of` meets its contract: by the test on the way.
+-- `passes::q_of` meets its contract: nothing where the bound is not past C - 1.
 -- Assumes nothing.
-use Rattle.passes.proofs.OnwardLaws.{q_none, q_some}
+use Rattle.std.proofs.Common.{◌∙◌}
+use Rattle.passes.proofs.OnwardLaws.{q_taken}
 use Rattle.passes.proofs.q_of.Goals as goal
 
-pub returns-then-bound-cost : goal.returns-then-bound-cost
-returns-then-bound-cost c = q_none c.if-bound-cost.true
-
-pub returns-else-bound-cost : goal.returns-else-bound-cost
-returns-else-bound-cost c = q_some c.if-bound-cost.false
+pub returns : goal.returns
+returns c = c.saturating_sub.ensures ∙ q_taken c.args.bound c.args.cost

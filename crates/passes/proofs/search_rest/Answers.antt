@@ -7,34 +7,27 @@ use Rattle.passes.proofs.search_rest.Goals as goal
 use Rattle.passes.proofs.search_rest.Goals.{then-flag_at-eq0+else-found-eq0, else-flag_at-eq0}
 
 pub loop-k-init : goal.loop-k-init
-loop-k-init c = (omega arith, rest_start c.requires.1)
-
-pub flag_at-requires : goal.flag_at-requires
-flag_at-requires c = omega (arith, c.loop-k-test.true, c.requires.0.count)
+loop-k-init c = rest_start c.requires
 
 pub bound_of-found-requires : goal.bound_of-found-requires
-bound_of-found-requires c =
-    (c.requires.0, c.loop-k-test.true, none_at_first _ _ _)
+bound_of-found-requires c = (c.loop-k-test.true, none_at_first _ _ _)
 
 pub returns-then-found-eq0 : goal.returns-then-found-eq0
 returns-then-found-eq0 c =
-    let inv = c.loop-k.invariant in
-    rest_here inv.1 (omega (arith, c.requires.0.count, c.loop-k-test.true))
+    rest_here c.loop-k.invariant (omega (arith, c.args.rows.now.legal.count, c.loop-k-test.true))
     c.loop-k-test.true c.bound_of-found.ensures c.if-found-eq0.true
 
 pub loop-k-preserved : goal.loop-k-preserved
 loop-k-preserved c =
-    let inv = c.loop-k.invariant in (
-      omega (arith, c.loop-k-test.true),
-      elim c.if-flag_at-eq0.branch [
-        | then-flag_at-eq0+else-found-eq0 w ↦
-            rw w.bounds-is (rest_found inv.1 (omega (arith, c.requires.0.count, c.loop-k-test.true))
-            w.bound_of-found.ensures w.if-found-eq0.false)
-        | else-flag_at-eq0 w ↦
-            rw w.bounds-is (rest_skip inv.1 c.requires.1 c.loop-k-test.true
-            (λ z. w.if-flag_at-eq0.false (c.flag_at.ensures ∙ z)))
-      ],
-    )
+    elim c.if-flag_at-eq0.branch [
+      | then-flag_at-eq0+else-found-eq0 w ↦
+          rw w.bounds-is (rest_found c.loop-k.invariant
+          (omega (arith, c.args.rows.now.legal.count, c.loop-k-test.true)) w.bound_of-found.ensures
+          w.if-found-eq0.false)
+      | else-flag_at-eq0 w ↦
+          rw w.bounds-is (rest_skip c.loop-k.invariant c.requires c.loop-k-test.true
+          (λ z. w.if-flag_at-eq0.false (c.flag_at.ensures ∙ z)))
+    ]
 
 pub returns : goal.returns
-returns c = rest_end c.loop-k.invariant.1 c.loop-k.invariant.0 c.loop-k-test.false
+returns c = rest_end c.loop-k.invariant (omega arith) c.loop-k-test.false

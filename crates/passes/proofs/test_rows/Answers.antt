@@ -6,16 +6,14 @@ use Rattle.bound.proofs.SearchLaws.{none_at_first}
 use Rattle.passes.proofs.test_rows.Goals as goal
 
 pub loop-k-init : goal.loop-k-init
-loop-k-init c = (omega arith, c.requires.1 ∙ fill_start 0 _)
+loop-k-init c = c.requires ∙ fill_start 0 _
 
 pub bound_of-requires : goal.bound_of-requires
-bound_of-requires c = (c.requires.0, c.loop-k-test.true, none_at_first _ _ _)
+bound_of-requires c = (c.loop-k-test.true, none_at_first _ _ _)
 
 pub loop-k-preserved : goal.loop-k-preserved
-loop-k-preserved c = (
-  omega arith,
-  fill_step 0 _ (omega (arith, c.requires.0.count)) c.loop-k.invariant.1 c.bound_of.ensures,
-)
+loop-k-preserved c =
+    fill_step 0 _ (omega (arith, c.args.rows.now.legal.count)) c.loop-k.invariant c.bound_of.ensures
 
 pub returns : goal.returns
-returns c = fill_end 0 _ c.loop-k.invariant.1 (omega arith)
+returns c = fill_end 0 _ c.loop-k.invariant (omega arith)

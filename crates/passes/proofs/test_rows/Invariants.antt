@@ -1,15 +1,12 @@
 -- `passes::test_rows` meets its contract. The loop's invariant: the row is filled up to task k.
 -- Assumes nothing.
-use Rattle.std.proofs.Common.{◌-◌, ◌≤◌, ◌≡◌}
+use Rattle.std.proofs.Common.{◌≡◌}
 use Rattle.base.specs.Rows.{row}
 use Rattle.model.specs.Bound.{bound}
 use Rattle.flags.specs.Flags.{flag_in}
-use Rattle.rows.specs.Held.{system_in}
+use Rattle.rows.specs.Whole.{system_held}
 use Rattle.passes.proofs.test_rows.Given as goal
 
 abbrev pub invariant-loop-k : goal.invariant-loop-k
 invariant-loop-k l =
-    (l.k ≤ l.n) × (l.bounds ≡ row 0 (bound (system_in l.head l.rest l.cost l.reach) (flag_in l.flags)) l.k)
-
-abbrev pub decreases-loop-k : goal.decreases-loop-k
-decreases-loop-k l = l.n - l.k
+    l.bounds ≡ row 0 (bound (system_held l.rows) (flag_in l.flags)) l.k

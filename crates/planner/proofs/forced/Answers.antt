@@ -5,16 +5,13 @@ use Rattle.planner.specs.Rows.{said_done}
 use Rattle.planner.proofs.StageLaws.{said_refused, force_refused, force_staged}
 use Rattle.planner.proofs.forced.Goals as goal
 
-pub returns-then-failing-ne0 : goal.returns-then-failing-ne0
-returns-then-failing-ne0 c t legal is_rows is_sent =
+pub returns-then-end-ne0 : goal.returns-then-end-ne0
+returns-then-end-ne0 c t legal is_rows is_sent =
     said_refused _ _ c.unsaid.ensures
-    ∙ force_refused legal is_sent is_rows c.force_rows-end.ensures c.if-failing-ne0.true
+    ∙ force_refused legal is_sent is_rows c.force_rows-end.ensures c.if-end-ne0.true
 
 pub returns : goal.returns
 unfolding said_done
 returns c t legal is_rows is_sent =
-    force_staged legal is_sent is_rows c.force_rows-end.ensures c.if-failing-ne0.false
+    force_staged legal is_sent is_rows c.force_rows-end.ensures c.if-end-ne0.false
     c.count_changed.ensures refl
-
-pub force_rows-end-requires : goal.force_rows-end-requires
-force_rows-end-requires c = c.requires

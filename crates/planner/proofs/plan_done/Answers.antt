@@ -4,21 +4,10 @@ use Rattle.std.proofs.Common.{sym, ap, subst, ◌∙◌}
 use Rattle.table.specs.Table.{LegalTable}
 use Rattle.lines.specs.declared.Reading.{Reading}
 use Rattle.lines.proofs.Theorems.{read_legal}
-use Rattle.planner.proofs.StageLaws.{plan_fine, plan_faulty}
 use Rattle.planner.proofs.plan_done.Goals as goal
 
 pub room_done-requires : goal.room_done-requires
 room_done-requires c =
     let r = c.read_plan-reading.ensures in
     subst (λ (x : Reading). LegalTable x.table) (sym r)
-    (read_legal _ (ap (λ (x : Reading). x.answer) (sym r) ∙ c.in-Fine.is))
-
-pub returns-in-Fine : goal.returns-in-Fine
-returns-in-Fine c =
-    c.room_done.ensures
-    ∙ plan_fine _ c.read_plan-reading.ensures _ _ c.in-Fine.is
-
-pub returns-in-Refused : goal.returns-in-Refused
-returns-in-Refused c =
-    c.refused.ensures
-    ∙ plan_faulty _ c.read_plan-reading.ensures _ _ c.in-Refused.is
+    (read_legal _ (ap (λ (x : Reading). x.answer) (sym r) ∙ c.in-Ok.is))

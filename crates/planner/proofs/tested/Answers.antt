@@ -5,14 +5,8 @@ use Rattle.planner.specs.Rows.{said_done}
 use Rattle.planner.proofs.StageLaws.{test_staged}
 use Rattle.planner.proofs.tested.Goals as goal
 
-pub failing_of-requires : goal.failing_of-requires
-failing_of-requires c = c.requires.0.count
-
 pub returns : goal.returns
 unfolding said_done
 returns c t legal is_rows is_sent =
     test_staged legal is_sent is_rows c.test_rows.ensures c.failing_of.ensures
     c.lowest_failing-failing.ensures refl
-
-pub test_rows-requires : goal.test_rows-requires
-test_rows-requires c = c.requires

@@ -9,40 +9,18 @@ loop-i-init c = adding_start c.requires
 
 pub overflow_add-row : goal.overflow_add-row
 overflow_add-row c =
-    let got = c in
-    let turn = got in
-    let a = turn in
-    omega (
-      arith,
-      (adding_fits a.requires a.loop-i.invariant turn.loop-i-test.true got.more_of-more.ensures).0,
-    )
+    omega (arith, (adding_fits c.requires c.loop-i.invariant c.loop-i-test.true c.more_of-more.ensures).0)
 
 pub overflow_add-sum : goal.overflow_add-sum
 overflow_add-sum c =
-    let got = c in
-    let turn = got in
-    let a = turn in
-    omega (
-      arith,
-      (adding_fits a.requires a.loop-i.invariant turn.loop-i-test.true got.more_of-more.ensures).1,
-    )
+    omega (arith, (adding_fits c.requires c.loop-i.invariant c.loop-i-test.true c.more_of-more.ensures).1)
 
 pub overflow_add-all : goal.overflow_add-all
 overflow_add-all c =
-    let got = c in
-    let turn = got in
-    let a = turn in
-    omega (
-      arith,
-      (adding_fits a.requires a.loop-i.invariant turn.loop-i-test.true got.more_of-more.ensures).2,
-    )
+    omega (arith, (adding_fits c.requires c.loop-i.invariant c.loop-i-test.true c.more_of-more.ensures).2)
 
 pub loop-i-preserved : goal.loop-i-preserved
-loop-i-preserved c =
-    let got = c in
-    let turn = got in
-    let a = turn in
-    adding_step a.requires a.loop-i.invariant turn.loop-i-test.true got.more_of-more.ensures
+loop-i-preserved c = adding_step c.requires c.loop-i.invariant c.loop-i-test.true c.more_of-more.ensures
 
 pub returns : goal.returns
-returns c = adding_end c.requires c.loop-i.invariant c.loop-i-test.false
+returns c = adding_end c.requires c.loop-i.invariant (omega arith)

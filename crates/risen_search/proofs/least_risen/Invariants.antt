@@ -9,7 +9,7 @@ use Rattle.risen_search.proofs.least_risen.Given as goal
 
 abbrev pub invariant-loop-q : goal.invariant-loop-q
 invariant-loop-q l =
-    (Climbing (whole_at l.rest l.cost l.reach l.cap l.most l.wait l.n l.m l.ahead) l.m l.last l.q)
+    (Climbing (whole_at l.times.rest l.times.cost l.reach l.cap l.most l.wait l.n l.m l.ahead) l.m l.last l.q)
     × (Roomy l.row l.line)
 
 abbrev pub decreases-loop-q : goal.decreases-loop-q

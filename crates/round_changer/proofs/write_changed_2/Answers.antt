@@ -6,17 +6,17 @@ use Rattle.round_changer.proofs.write_changed_2.Goals as goal
 
 pub legal_second-forced-requires : goal.legal_second-forced-requires
 legal_second-forced-requires c =
-    text_legal _ c.read_plan-reading.ensures c.in-Fine.is
+    text_legal _ c.read_plan-reading.ensures c.in-Ok.is
 
 pub write_done-requires : goal.write_done-requires
 write_done-requires c =
-    text_legal _ c.read_plan-reading.ensures c.in-Fine.is
+    text_legal _ c.read_plan-reading.ensures c.in-Ok.is
 
-pub returns-in-Fine : goal.returns-in-Fine
-returns-in-Fine c =
-    text_forced _ c.read_plan-reading.ensures c.in-Fine.is c.legal_second-forced.ensures
+pub returns-in-Ok : goal.returns-in-Ok
+returns-in-Ok c =
+    text_forced _ c.read_plan-reading.ensures c.in-Ok.is c.legal_second-forced.ensures
     c.write_done.ensures
 
-pub returns-in-Refused : goal.returns-in-Refused
-returns-in-Refused c =
-    text_faulty _ c.read_plan-reading.ensures c.in-Refused.is
+pub returns-in-Err : goal.returns-in-Err
+returns-in-Err c =
+    text_faulty _ c.read_plan-reading.ensures c.in-Err.is

@@ -4,14 +4,14 @@
 -- Assumes nothing.
 use Rattle.base.specs.Sums.{sum_to}
 use Rattle.flags.specs.Flags.{flag_in}
-use Rattle.rows.specs.Held.{system_in}
+use Rattle.rows.specs.Whole.{system_held}
 use Rattle.round_force.proofs.PassingLaws.{Forcing2}
 use Rattle.round_force.proofs.force_rounds.Given as goal
 
-abbrev pub invariant-loop-head : goal.invariant-loop-head
-invariant-loop-head l =
-    Forcing2 (system_in l.head l.rest l.cost l.reach) l.initial.flags l.flags l.bounds l.passes
+abbrev pub invariant-loop-first : goal.invariant-loop-first
+invariant-loop-first l =
+    Forcing2 (system_held l.rows) l.initial.flags l.flags l.bounds l.passes
 
-abbrev pub decreases-loop-head : goal.decreases-loop-head
-decreases-loop-head l =
-    sum_to (flag_in l.flags) l.head.n
+abbrev pub decreases-loop-first : goal.decreases-loop-first
+decreases-loop-first l =
+    sum_to (flag_in l.flags) l.rows.head.n

@@ -5,5 +5,4 @@ use Rattle.round_force.proofs.ChangeLaws.{alone_held}
 use Rattle.round_force.proofs.one_alone.Goals as goal
 
 pub returns : goal.returns
-returns c =
-    c.failing_of.ensures ∙ alone_held c.requires.0 c.requires.1 c.requires.2
+returns c = c.failing_of.ensures ∙ alone_held c.requires.0 c.requires.1

@@ -7,5 +7,6 @@ pub returns-then-last_lacking-eq0 : goal.returns-then-last_lacking-eq0
 returns-then-last_lacking-eq0 c =
     force_first _ _ _ _ c.last_lacking.ensures c.if-last_lacking-eq0.true c.one_alone.ensures
 
-pub returns : goal.returns
-returns c = force_failing _ _ _ _ c.last_lacking.ensures c.if-last_lacking-eq0.false
+pub returns-else-last_lacking-eq0 : goal.returns-else-last_lacking-eq0
+returns-else-last_lacking-eq0 c =
+    force_failing _ _ _ _ c.last_lacking.ensures c.if-last_lacking-eq0.false

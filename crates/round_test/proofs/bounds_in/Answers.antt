@@ -7,25 +7,17 @@ use Rattle.round_test.proofs.bounds_in.Goals as goal
 use Rattle.round_test.proofs.bounds_in.Goals.{then-k-spared, else-k-spared}
 
 pub loop-k-init : goal.loop-k-init
-loop-k-init c = (omega arith, refill_start c.requires.0.count c.requires.2)
-
-pub bound_under-requires : goal.bound_under-requires
-bound_under-requires c =
-    (c.requires.0, c.loop-k-test.true, c.requires.1)
+loop-k-init c = refill_start c.args.rows.now.legal.count c.requires.1
 
 pub loop-k-preserved : goal.loop-k-preserved
 loop-k-preserved c =
-    let inv = c.loop-k.invariant.1 in
-    let small : c.loop-k.k < 32 = omega (arith, c.requires.0.count, c.loop-k-test.true) in (
-      omega (arith, c.loop-k-test.true),
-      elim c.if-k-spared.branch [
-        | then-k-spared w ↦ rw w.bounds-is (filled_step inv small w.bound_under.ensures)
-        | else-k-spared w ↦
-            rw w.bounds-is (filled_stays inv (inv.rest _ (le_refl _)
-            ∙ c.requires.3 _ c.loop-k-test.true (sym w.if-k-spared.false)))
-      ],
-    )
+    let small : c.loop-k.k < 32 = omega (arith, c.args.rows.now.legal.count, c.loop-k-test.true) in
+    elim c.if-k-spared.branch [
+      | then-k-spared w ↦ rw w.bounds-is (filled_step c.loop-k.invariant small w.bound_under.ensures)
+      | else-k-spared w ↦
+          rw w.bounds-is (filled_stays c.loop-k.invariant (c.loop-k.invariant.rest _ (le_refl _)
+          ∙ c.requires.2 _ c.loop-k-test.true (sym w.if-k-spared.false)))
+    ]
 
 pub returns : goal.returns
-returns c =
-    refill_end c.requires.0.count c.requires.2 c.loop-k.invariant.1 (omega arith)
+returns c = refill_end c.args.rows.now.legal.count c.requires.1 c.loop-k.invariant (omega arith)

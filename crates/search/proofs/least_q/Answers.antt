@@ -10,8 +10,7 @@ returns-then-last-eq0 c = no_range c.requires.0 c.if-last-eq0.true
 
 pub returns-then-used-m : goal.returns-then-used-m
 returns-then-used-m c =
-    let here = c in
-    fewer_shares here.requires.0 c.if-used-m.true (omega (arith, here.if-last-eq0.false))
+    fewer_shares c.requires.0 c.if-used-m.true (omega (arith, c.if-last-eq0.false))
 
 pub seek-requires : goal.seek-requires
 seek-requires c =

@@ -8,8 +8,8 @@ use Rattle.search.proofs.seek.Given as goal
 
 abbrev pub invariant-loop-q : goal.invariant-loop-q
 invariant-loop-q l =
-    (Climbing (sum_at l.rest l.cost l.reach l.cap l.used l.ahead) l.m l.last l.q) × (Roomy l.row l.line)
+    (Climbing (sum_at l.times.rest l.times.cost l.reach l.cap l.used l.ahead) l.m l.last l.q)
+    × (Roomy l.row l.line)
 
 abbrev pub decreases-loop-q : goal.decreases-loop-q
-decreases-loop-q l =
-    l.last + 1 - l.q
+decreases-loop-q l = l.last + 1 - l.q

@@ -1,11 +1,8 @@
 -- `test_listing::put_rows` meets its contract: after i turns the lines of the first i tasks are written.
 -- Assumes nothing.
-use Rattle.std.proofs.Common.{◌-◌}
-use Rattle.test_listing.proofs.RowLaws.{Writing}
+use Rattle.listing.proofs.TaskLaws.{Writing}
+use Rattle.test_listing.specs.TestListing.{test_line_at}
 use Rattle.test_listing.proofs.put_rows.Given as goal
 
 abbrev pub invariant-loop-i : goal.invariant-loop-i
-invariant-loop-i l = Writing l.initial.out l.at l.t l.recs l.out l.place l.number l.i
-
-abbrev pub decreases-loop-i : goal.decreases-loop-i
-decreases-loop-i l = l.n - l.i
+invariant-loop-i l = Writing l.initial.out l.at l.t (test_line_at l.t l.recs) l.out l.place l.i

@@ -9,15 +9,15 @@ returns-then-out-lt-WORD_ROOM c = listed_short c.if-out-lt-WORD_ROOM.true
 
 pub put_refusal-requires : goal.put_refusal-requires
 put_refusal-requires c =
-    refused_room _ c.plan_done-done.ensures c.in-Refused.is c.if-out-lt-WORD_ROOM.false
+    refused_room _ c.plan_done-done.ensures c.in-Err.is c.if-out-lt-WORD_ROOM.false
 
-pub returns-in-Given : goal.returns-in-Given
-returns-in-Given c =
+pub returns-in-Ok : goal.returns-in-Ok
+returns-in-Ok c =
     listed_put c.if-out-lt-WORD_ROOM.false
-    (word_given _ c.plan_done-done.ensures c.in-Given.is c.done_word.ensures)
+    (word_given _ c.plan_done-done.ensures c.in-Ok.is c.done_word.ensures)
     c.put_word.ensures
 
-pub returns-in-Refused : goal.returns-in-Refused
-returns-in-Refused c =
+pub returns-in-Err : goal.returns-in-Err
+returns-in-Err c =
     listed_put c.if-out-lt-WORD_ROOM.false
-    (word_refused _ c.plan_done-done.ensures c.in-Refused.is) c.put_refusal.ensures
+    (word_refused _ c.plan_done-done.ensures c.in-Err.is) c.put_refusal.ensures

@@ -1,9 +1,0 @@
--- `desk::line_end` is safe and ends, and its place lies within the input. Assumes nothing.
-use Rattle.std.proofs.Common.{◌≤◌, ◌-◌, length}
-use Rattle.desk.proofs.line_end.Given as goal
-
-abbrev pub invariant-loop-i : goal.invariant-loop-i
-invariant-loop-i l = l.i ≤ length l.s
-
-abbrev pub decreases-loop-i : goal.decreases-loop-i
-decreases-loop-i l = length l.s - l.i

@@ -1,6 +1,0 @@
--- `text_cases::print` is safe: what is written is a part of the buffer. Assumes nothing.
-use Rattle.std.proofs.Common.{sym, arith, length-take-le}
-use Rattle.text_cases.proofs.print.Goals as goal
-
-pub slice_bounds-write_all-end : goal.slice_bounds-write_all-end
-slice_bounds-write_all-end c = sym (length-take-le _ _ (omega arith))
