@@ -162,7 +162,9 @@ def functions():
         if not (base / "proofs").is_dir() or (base / "stdout").is_file():
             continue
         text = source.read_text(encoding="utf-8")
-        for name, contract in re.findall(r"^pub (?:extern \"C\" )?fn (\w+)[(<](.*?)^\{", text, re.M | re.S):
+        # a method stands as deep as its impl; its body opens where it began
+        declared = re.findall(r"^( *)pub (?:extern \"C\" )?fn (\w+)[(<](.*?)^\1\{", text, re.M | re.S)
+        for _, name, contract in declared:
             if f"{crate}::{name}" not in promised:
                 yield f"docs/CLAIMS.md: no row has the promise of {crate}::{name}"
             due = 1 if re.search(r"^\s*requires (?:\w+ )?\{", contract, re.M) else 2

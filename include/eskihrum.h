@@ -13,8 +13,7 @@
  * - It keeps nothing between calls: no global variable, no allocation, no lock. Any number of threads may
  *   call at once, each with lists of its own.
  * - Of the C library it needs memcpy and memset, and nothing else.
- * - It touches no memory but the lists that it is lent and its stack, of which it takes less than 8 KB, and
- *   less than 12 KB where it looks for the fewest cores.
+ * - It touches no memory but the lists that it is lent and its stack, of which it takes less than 8 KB.
  * - It always returns, but its time has no smaller limit than that. Most tables take less than a millisecond,
  *   the slowest tables known most of a second (docs/BENCHMARK.md): not for a loop with a deadline of its own.
  * - It uses the SSE2 registers and the red zone below the stack pointer: not for interrupt handlers, nor for

@@ -17,8 +17,9 @@ use Rattle.flags.specs.Flags.{held}
 use Rattle.flags.proofs.WordForLaws as words
 use Rattle.rows.specs.declared.Head.{Head}
 use Rattle.rows.specs.declared.Rows.{Rows}
-use Rattle.rows.specs.Whole.{HeldIn}
+use Rattle.rows.specs.Whole.{HeldIn, rows_in}
 use Rattle.rows.specs.Held.{system_in, RowsOf}
+use Rattle.rows.proofs.HeldLaws.{table_rows}
 use Rattle.forcing.specs.declared.Forced.{Forced}
 use Rattle.forcing.specs.Forced.{Ended}
 use Rattle.planner.specs.declared.Job.{Job}
@@ -86,12 +87,21 @@ no_place_for_zero t legal bs failing w = words.place_none (system_of t) legal.co
 
 -- Test and forcing, over the rows and the word of a legal table, answer as they did with a flag in each task:
 -- what rows_said leaves, with its records listed, is the answer by places.
-pub answers_stay : (t : Table) → LegalTable t → (job : Job) (rows : Rows) → HeldIn t rows → (taken : Flags)
+pub answers_held : (t : Table) → LegalTable t → (job : Job) (rows : Rows) → HeldIn t rows → (taken : Flags)
     → WordFor (sent t) t.n taken.word → (r : Said) (bounds : List ℕ)
     → OfTable (λ u. legal_done u job) rows taken (said_done taken r bounds)
     → said_done taken r bounds ≡ legal_done t job
-answers_stay t legal job rows held taken w r bounds promise =
+answers_held t legal job rows held taken w r bounds promise =
     promise t legal held ((flags_are_the_word t taken).1 w)
+
+-- A head and lists that hold a legal table are legal (`table_rows`), and so are such rows.
+pub answers_stay : (t : Table) (legal : LegalTable t) (job : Job) (head : Head)
+    (inverse rest cost reach : List ℕ) (is : RowsOf t inverse rest cost reach head) (taken : Flags)
+    → WordFor (sent t) t.n taken.word → (r : Said) (bounds : List ℕ)
+    → OfTable (λ u. legal_done u job) (rows_in (table_rows legal is)) taken (said_done taken r bounds)
+    → said_done taken r bounds ≡ legal_done t job
+answers_stay t legal job head inverse rest cost reach is taken w r bounds promise =
+    answers_held t legal job (rows_in (table_rows legal is)) is taken w r bounds promise
 
 -- The word that goes out is that of the flags in the caller's list; in every refusal it is 0.
 pub word_given_out : (c : Call) (t : Table) (old : List Record) → Asks c t old → (job : Job) (y : Bool)

@@ -11,7 +11,7 @@ ghost use Rattle.edition_2.specs.Rows.{said_rounded};
 
 use flags::Flags;
 use planner::{Done, Job, Said, Verdict};
-use rows::Rows;
+use rows::{NO_ROWS, Rows};
 use table::{Refusal, Table};
 
 // An answer with the round count of the last test; 0 where there was none, and in every refusal.
@@ -103,7 +103,8 @@ pub fn legal_second(t: Table, job: Job) -> Rounded
     requires { LegalTable t }
     ensures { result ≡ legal_second t job }
 {
-    let rows = rows::rows_of(t);
+    let mut rows = NO_ROWS;
+    rows::rows_of(t, &mut rows);
     let given = flags::flags_of(t);
     let mut bounds = [0u32; 32];
     let RoundsSaid { said, rounds } = rows_second(job, &rows, given, &mut bounds);

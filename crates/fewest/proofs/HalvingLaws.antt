@@ -22,6 +22,39 @@ said : {x d : Done} {b b' : Bool} → d ≡ x → b ≡ says_yes d → b ≡ b' 
 said e y is = ap says_yes (sym e) ∙ sym y ∙ is
 
 module _ {t : Table} where
+  -- with 16 it accepts
+  pub halving_start : {d : Done} {b : Bool} → d ≡ force_done (on_cores t 16) → b ≡ says_yes d → b ≡ true
+      → Between t 0 16 d
+  halving_start e y is = record {
+    less = omega arith;
+    most = omega arith;
+    refuses = λ pos. absurd (let z : ⊥ = omega arith in z);
+    accepts = said e y is;
+    done = e;
+  }
+
+  module _ {low high m : ℕ} {d d' : Done} {b : Bool} (a : Between t low high d)
+      (e : d' ≡ force_done (on_cores t m)) (y : b ≡ says_yes d') (in' : low < m) (in'' : m < high) where
+    -- it accepts: look below
+    pub halving_down : b ≡ true → Between t low m d'
+    halving_down is = record {
+      less = in';
+      most = omega (arith, a.most);
+      refuses = a.refuses;
+      accepts = said e y is;
+      done = e;
+    }
+
+    -- it refuses: look above
+    pub halving_up : b ≡ false → Between t m high d
+    halving_up is = record {
+      less = in'';
+      most = a.most;
+      refuses = λ _. said e y is;
+      accepts = a.accepts;
+      done = a.done;
+    }
+
   module _ (legal : LegalTable t) where
     -- nothing is between them any more
     pub halving_end : {low high : ℕ} {d : Done} → Between t low high d → high ≤ low + 1

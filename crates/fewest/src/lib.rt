@@ -4,11 +4,16 @@
 
 ghost use Rattle.std.specs.Prelude.{◌≡◌, ◌≤◌};
 ghost use Rattle.table.specs.Table.{LegalTable};
+ghost use Rattle.flags.specs.Flags.{flag_in, held};
+ghost use Rattle.rows.specs.Whole.{OnCores};
+ghost use Rattle.planner.specs.Rows.{OfTable};
 ghost use Rattle.planner.specs.Done.{force_done};
 ghost use Rattle.cores.specs.Cores.{on_cores, says_yes};
 ghost use Rattle.fewest.specs.Fewest.{refuse_fewest, legal_fewest, room_fewest, plan_fewest, list_fewest};
 
+use flags::Flags;
 use planner::{Done, Job};
+use rows::{NO_ROWS, Rows};
 use table::{Refusal, Table, Task};
 
 // What forcing gives with the fewest cores, and their number; a refusal has 0 for it.
@@ -18,12 +23,22 @@ pub struct Fewest {
     pub cores: u32,
 }
 
-// What forcing gives with m cores, whatever the table says of them.
-fn force_on(t: Table, m: u32) -> Done
-    requires { LegalTable t × ((1 ≤ m) × (m ≤ 16)) }
-    ensures { result ≡ force_done (on_cores t m) }
+// What forcing gives with m cores, whatever the rows said of them.
+fn force_on(rows: &mut Rows, given: Flags, m: u32) -> Done
+    requires { (1 ≤ m) × (m ≤ 16) × (given ≡ held (flag_in given) rows.old.head.n) }
+    ensures { (OfTable (λ t. force_done (on_cores t m)) rows.old given result)
+        × (OnCores rows.old m rows.new) }
 {
-    planner::legal_done(Table { cores: m, ..t }, Job::Force)
+    rows.set_cores(m);
+    let mut bounds = [0u32; 32];
+    let said = planner::rows_said(Job::Force, rows, given, &mut bounds);
+    // It is at most 32, but the promise says so of the rows of a table alone.
+    let count = said.count.min(32);
+    Done {
+        answer: said.answer,
+        count,
+        recs: planner::records(count, given, said.flags, &bounds),
+    }
 }
 
 // Whether forcing accepted.
@@ -33,13 +48,13 @@ fn says_yes(d: Done) -> bool
     d.answer.is_ok_and(|v| v.yes)
 }
 
-// The fewest cores for a legal table. With `low` cores forcing refuses, or there are none; with `high` it
+// The fewest cores for a table in rows. With `low` cores forcing refuses, or there are none; with `high` it
 // accepts, and `done` is what it gives.
-pub fn legal_fewest(t: Table) -> Fewest
-    requires { LegalTable t }
-    ensures { result ≡ legal_fewest t }
+fn rows_fewest(rows: &mut Rows, given: Flags) -> Fewest
+    requires { given ≡ held (flag_in given) rows.old.head.n }
+    ensures { OfTable legal_fewest rows.old given result }
 {
-    let mut done = force_on(t, 16);
+    let mut done = force_on(rows, given, 16);
     if !says_yes(done) {
         return Fewest { done, cores: 0 };
     }
@@ -48,7 +63,7 @@ pub fn legal_fewest(t: Table) -> Fewest
     // A while: the range is halved, no range gives its values.
     while low + 1 < high {
         let middle = (low + high) / 2;
-        let tried = force_on(t, middle);
+        let tried = force_on(rows, given, middle);
         if says_yes(tried) {
             done = tried;
             high = middle;
@@ -57,6 +72,16 @@ pub fn legal_fewest(t: Table) -> Fewest
         }
     }
     Fewest { done, cores: high }
+}
+
+// The fewest cores for a legal table.
+pub fn legal_fewest(t: Table) -> Fewest
+    requires { LegalTable t }
+    ensures { result ≡ legal_fewest t }
+{
+    let mut rows = NO_ROWS;
+    rows::rows_of(t, &mut rows);
+    rows_fewest(&mut rows, flags::flags_of(t))
 }
 
 // A refusal: no cores.
@@ -70,29 +95,27 @@ fn refused(why: Refusal) -> Fewest
 }
 
 // 13 before any forcing, where the caller's list has too little room.
-#[tactic(auto, unfolding(crate::specs::Fewest::room_fewest))]
-fn room_fewest(t: Table, room: usize) -> Fewest
-    requires { LegalTable t }
-    ensures { result ≡ room_fewest t room }
+fn room_fewest(rows: &mut Rows, given: Flags, room: usize) -> Fewest
+    requires { given ≡ held (flag_in given) rows.old.head.n }
+    ensures { OfTable (λ t. room_fewest t room) rows.old given result }
 {
-    if room < t.n {
+    if room < rows.head.n {
         let why = Refusal {
             number: 13,
             place: 0,
         };
         return refused(why);
     }
-    legal_fewest(t)
+    rows_fewest(rows, given)
 }
 
 // The fewest cores for a plan; room is the length of the caller's list.
-#[tactic(auto, unfolding(crate::specs::Fewest::plan_fewest))]
 pub fn plan_fewest(text: &[u8], room: usize) -> Fewest
     ensures { result ≡ plan_fewest text.now room }
 {
-    let reading = reader::read_plan(text);
-    match reading.answer {
-        Ok(()) => room_fewest(reading.table, room),
+    let mut rows = NO_ROWS;
+    match row_reader::load_plan(text, &mut rows) {
+        Ok(given) => room_fewest(&mut rows, given, room),
         Err(why) => refused(why),
     }
 }
@@ -110,7 +133,11 @@ pub fn list_fewest(cores: u32, policy: u32, n: usize, tasks: [Task; 32], room: u
         tasks,
     };
     match table::check_table(t) {
-        Ok(()) => room_fewest(t, room),
+        Ok(()) => {
+            let mut rows = NO_ROWS;
+            rows::rows_of(t, &mut rows);
+            room_fewest(&mut rows, flags::flags_of(t), room)
+        }
         Err(why) => refused(why),
     }
 }

@@ -12,7 +12,7 @@ ghost use Rattle.planner.specs.Done.{list_done};
 ghost use Rattle.planner.specs.Rows.{unsaid, said_done, OfTable};
 
 use flags::Flags;
-use rows::Rows;
+use rows::{NO_ROWS, Rows};
 use table::{Refusal, Table, Task};
 
 // One record of an answer: the task's flag, 1 if it was forced, and its bound, 0 for none.
@@ -183,7 +183,8 @@ pub fn legal_done(t: Table, job: Job) -> Done
     requires { LegalTable t }
     ensures { result ≡ legal_done t job }
 {
-    let rows = rows::rows_of(t);
+    let mut rows = NO_ROWS;
+    rows::rows_of(t, &mut rows);
     let given = flags::flags_of(t);
     let mut bounds = [0u32; 32];
     let said = rows_said(job, &rows, given, &mut bounds);

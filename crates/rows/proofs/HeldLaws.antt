@@ -9,6 +9,7 @@ use Rattle.model.specs.Bound.{Legal, under, bound}
 use Rattle.model.proofs.PlaceLaws.{Places, Within, left_out}
 use Rattle.table.specs.declared.Table.{Table}
 use Rattle.table.specs.Table.{task_at, level_at, policy_of, system_of, LegalTable}
+use Rattle.window.specs.Window.{inverse_of}
 use Rattle.rows.specs.declared.Head.{Head}
 use Rattle.rows.specs.declared.Levels.{Levels}
 use Rattle.rows.specs.Levels.{level_in, with_level, higher_at, LevelsTo}
@@ -73,6 +74,25 @@ module _ {t : Table} {inverse rest cost reach : List ℕ} {h : Head} (legal : Le
     pub rows_deadline : (i : ℕ) → i < t.n → at reach i + at cost i ≡ (task_at t.tasks i).deadline
     rows_deadline i lt =
         omega (arith, rows_time i lt, read (reach_of_task t) is.rows.reach i lt, legal.each i lt)
+
+    pub table_rows : LegalRows h inverse rest cost reach
+    table_rows = record {
+      some_core = omega (arith, is.cores, legal.some_core);
+      cores = omega (arith, is.cores, legal.cores);
+      count = omega (arith, is.n, legal.count);
+      each = λ i lt.
+          let inside : i < t.n = omega (arith, is.n) in
+          record {
+            time = omega (arith, rows_time i inside, legal.each i inside);
+            deadline = omega (arith, period i inside, rows_deadline i inside, legal.each i inside);
+            period = omega (arith, period i inside, legal.each i inside);
+            divides =
+                read (inverse_of_task t) is.rows.inverse i inside ∙ ap inverse_of (sym (period i inside));
+          };
+      levels = λ i lt.
+          let inside : i < t.n = omega (arith, is.n) in
+          omega (arith, rows_level i inside, (legal.each i inside).level);
+    }
 
     module _ (S fl : ℕ → ℕ) (k : ℕ) (inside : k < t.n) where
       -- every place of the one is the same place of the other

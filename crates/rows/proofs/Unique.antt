@@ -7,7 +7,7 @@ use Rattle.table.specs.declared.Table.{Table}
 use Rattle.table.specs.declared.Task.{Task}
 use Rattle.rows.specs.declared.Head.{Head}
 use Rattle.rows.specs.declared.Rows.{Rows}
-use Rattle.rows.specs.Whole.{Begun, Pushed}
+use Rattle.rows.specs.Whole.{Begun, Pushed, OnCores}
 use Rattle.rows.specs.Held.{RowsOf}
 use Rattle.rows.proofs.level_at.Kinds as level-at
 use Rattle.rows.proofs.level_at.Reads as level-at-reads
@@ -42,7 +42,7 @@ rows_of_only a b = (
   only a.rows.reach b.rows.reach,
 )
 
--- what begins rows, and adds a task to them, says each field of what they are then
+-- what begins rows, adds a task to them or puts them on other cores says each field of what they are then
 pub begin_only : {p m : ℕ} {x y : Rows} → Begun p m x → Begun p m y
     → (x.head ≡ y.head) × (x.times.inverse ≡ y.times.inverse) × (x.times.rest ≡ y.times.rest)
     × (x.times.cost ≡ y.times.cost) × (x.reach ≡ y.reach)
@@ -64,5 +64,14 @@ push_only a b = (
   only a.inverse b.inverse,
   only a.rest b.rest,
   only a.cost b.cost,
+  only a.reach b.reach,
+)
+
+pub set_cores_only : {r x y : Rows} {m : ℕ} → OnCores r m x → OnCores r m y
+    → (x.head ≡ y.head) × (x.times ≡ y.times) × (x.reach ≡ y.reach)
+set_cores_only a b = (
+  same_head (only a.policy b.policy) (only a.cores b.cores) (only a.n b.n)
+      (ap (λ ls. ls.of) (only a.levels b.levels)),
+  only a.times b.times,
   only a.reach b.reach,
 )

@@ -79,7 +79,7 @@ pub fn higher(levels: Levels, k: usize, i: usize) -> bool
 }
 
 impl Rows {
-    ghost use Rattle.rows.specs.Whole.{RowsEmpty, Begun, Pushed};
+    ghost use Rattle.rows.specs.Whole.{RowsEmpty, Begun, Pushed, OnCores};
 
     // Rows of no task, and what the table says besides its tasks.
     pub fn begin(&mut self, policy: u32, cores: u32)
@@ -107,17 +107,25 @@ impl Rows {
         self.head.levels = with_level(self.head.levels, i, t.level);
         self.head.n = i + 1;
     }
+
+    // The same tasks on other cores.
+    pub fn set_cores(&mut self, cores: u32)
+        requires { (1 ≤ cores) × (cores ≤ 16) }
+        ensures { OnCores self.old cores self.new }
+    {
+        self.head.cores = cores;
+    }
 }
 
-// The rows of a table.
-pub fn rows_of(t: Table) -> Rows
+// The rows of a table, in place of what was there: they are 700 bytes, too many to be handed on by value.
+pub fn rows_of(t: Table, rows: &mut Rows)
     requires { LegalTable t }
-    ensures { RowsOf t result.times.inverse result.times.rest result.times.cost result.reach result.head }
+    ensures { RowsOf t rows.new.times.inverse rows.new.times.rest rows.new.times.cost rows.new.reach
+        rows.new.head }
 {
-    let mut rows = NO_ROWS;
+    *rows = NO_ROWS;
     rows.begin(t.policy, t.cores);
     for i in 0..t.n {
         rows.push(t.tasks[i]);
     }
-    rows
 }

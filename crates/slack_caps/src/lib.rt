@@ -22,14 +22,16 @@ fn add_caps_under(rows: &Rows, slacks: &[u32; 32], flags: Flags, k: usize, cap: 
         ≡ cap_in (under (system_held rows.now)
         (at slacks.now)) (flag_in flags) k (at cap.old) i }
 {
+    // The head by value: what is written in the loop is then seen to leave it.
+    let head = rows.head;
     let fk = flags::flag_at(flags, k);
     let due = rows.reach[k] + rows.times.cost[k];
-    for i in 0..rows.head.n {
+    for i in 0..head.n {
         let fi = flags::flag_at(flags, i);
-        let high = rows::higher(rows.head.levels, k, i);
-        let left = due.saturating_sub(slacks[i]);
+        let high = rows::higher(head.levels, k, i);
+        let left = window::past(due, slacks[i]);
         let most = cap_for::cap_for(
-            rows.head.policy,
+            head.policy,
             fk,
             fi,
             high,

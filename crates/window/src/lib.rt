@@ -2,7 +2,7 @@
 // is worked out once for a table, and 2^42 of the product are one whole period.
 #![tactic(auto)]
 
-ghost use Rattle.std.specs.Prelude.{◌≡◌, ◌+◌, ◌≤◌};
+ghost use Rattle.std.specs.Prelude.{◌≡◌, ◌+◌, ◌-◌, ◌≤◌, min};
 ghost use Rattle.model.specs.Bound.{work_in};
 ghost use Rattle.window.specs.Window.{inverse_of, whole_in, Windowed};
 
@@ -12,6 +12,20 @@ pub struct Times {
     pub inverse: [u64; 32],
     pub rest: [u32; 32],
     pub cost: [u32; 32],
+}
+
+// The least of two numbers. This and the next are the library's own, under a promise that a proof can name.
+pub fn least_of(a: u32, b: u32) -> u32
+    ensures { result ≡ min a b }
+{
+    a.min(b)
+}
+
+// How far a lies past b: 0 where it is not past it.
+pub fn past(a: u32, b: u32) -> u32
+    ensures { result ≡ a - b }
+{
+    a.saturating_sub(b)
 }
 
 // The inverse of a period.
@@ -37,5 +51,5 @@ pub fn work(inverse: u64, rest: u32, cost: u32, x: u32) -> u32
     ensures { result ≡ work_in (rest + cost) cost x }
 {
     let whole = jobs(x, inverse);
-    (whole * cost + cost).min(x - whole * rest)
+    least_of(whole * cost + cost, x - whole * rest)
 }

@@ -1,14 +1,10 @@
--- `fewest::legal_fewest` meets its contract: what is left to show beside the invariants.
+-- `fewest::legal_fewest` meets its contract: its rows hold the table, with the table's flags.
 -- Assumes nothing.
-use Rattle.std.proofs.Common.{arith}
-use Rattle.fewest.proofs.HalvingLaws.{halving_end}
-use Rattle.fewest.proofs.HalvingLaws.{halving_none}
+use Rattle.forcing.proofs.TableLaws.{given_held}
 use Rattle.fewest.proofs.legal_fewest.Goals as goal
 
-pub returns-then-not-says_yes : goal.returns-then-not-says_yes
-returns-then-not-says_yes c =
-    halving_none c.requires c.force_on-done.ensures
-    c.says_yes.ensures (c.if-not-says_yes.true)
+pub rows_fewest-requires : goal.rows_fewest-requires
+rows_fewest-requires c = given_held c.requires c.flags_of.ensures c.rows_of.ensures.n
 
 pub returns : goal.returns
-returns c = halving_end c.requires c.loop-low.invariant (omega arith)
+returns c = c.rows_fewest.ensures _ c.requires c.rows_of.ensures c.flags_of.ensures

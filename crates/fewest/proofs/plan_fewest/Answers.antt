@@ -1,13 +1,14 @@
--- `fewest::plan_fewest` meets its contract: the reading's refusal, or what its table is answered.
+-- `fewest::plan_fewest` meets its contract: the reading's refusal, or what the table of its rows is answered.
 -- Assumes nothing.
-use Rattle.std.proofs.Common.{sym, ap, subst, ◌∙◌}
-use Rattle.table.specs.Table.{LegalTable}
-use Rattle.lines.specs.declared.Reading.{Reading}
-use Rattle.lines.proofs.Theorems.{read_legal}
+use Rattle.std.proofs.Common.{◌∙◌}
+use Rattle.fewest.proofs.StageLaws.{text_given, text_found, text_faulty}
 use Rattle.fewest.proofs.plan_fewest.Goals as goal
 
 pub room_fewest-requires : goal.room_fewest-requires
-room_fewest-requires c =
-    let r = c.read_plan-reading.ensures in
-    subst (λ (x : Reading). LegalTable x.table) (sym r)
-    (read_legal _ (ap (λ (x : Reading). x.answer) (sym r) ∙ c.in-Ok.is))
+room_fewest-requires c = text_given _ c.args.room c.in-Ok.ensures
+
+pub returns-in-Ok : goal.returns-in-Ok
+returns-in-Ok c = text_found _ _ c.in-Ok.ensures c.room_fewest.ensures
+
+pub returns-in-Err : goal.returns-in-Err
+returns-in-Err c = c.refused.ensures ∙ text_faulty _ _ c.in-Err.ensures

@@ -9,16 +9,16 @@ use Rattle.planner.proofs.legal_done.Goals as goal
 pub rows_said-said-requires : goal.rows_said-said-requires
 rows_said-said-requires c =
     let legal = c.requires in
-    (given_held legal c.flags_of-given.ensures c.rows_of-rows.ensures.n, refl)
+    (given_held legal c.flags_of-given.ensures c.rows_of.ensures.n, refl)
 
 pub records-requires : goal.records-requires
 records-requires c =
     let legal = c.requires in
     said_few _ _ _ _ legal
-    (c.rows_said-said.ensures _ legal c.rows_of-rows.ensures c.flags_of-given.ensures)
+    (c.rows_said-said.ensures _ legal c.rows_of.ensures c.flags_of-given.ensures)
 
 pub returns : goal.returns
 returns c =
     let legal = c.requires in
     said_listed _ _ _ c.records.ensures
-    (c.rows_said-said.ensures _ legal c.rows_of-rows.ensures c.flags_of-given.ensures)
+    (c.rows_said-said.ensures _ legal c.rows_of.ensures c.flags_of-given.ensures)

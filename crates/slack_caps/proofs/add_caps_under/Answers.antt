@@ -18,7 +18,7 @@ overflow_add-cap c =
     let own = r.legal.each c.args.k c.requires.0 in
     omega (
       arith,
-      cap_fits (at r.times.rest i + at r.times.cost i) (at r.times.cost i) c.saturating_sub-left.result
+      cap_fits (at r.times.rest i + at r.times.cost i) (at r.times.cost i) c.past-left.result
           (policy_of r.head.policy) _ _ c.cap_for-most.ensures (omega arith)
           (omega (arith, own.deadline, own.period)),
       c.loop-i.invariant.rest i (omega arith),
@@ -34,7 +34,7 @@ loop-i-preserved c =
       arith,
       cap_read (under (system_held g.rows.now) (at g.slacks.now)) g.k c.loop-i.i here.time
           (omega (arith, c.requires.1 c.loop-i.i c.loop-i-test.true))
-          (omega (arith, here.deadline)) (flag_in g.flags) (at g.cap.now) c.saturating_sub-left.ensures
+          (omega (arith, here.deadline)) (flag_in g.flags) (at g.cap.now) c.past-left.ensures
           c.cap_for-most.ensures c.flag_at-fi.ensures c.flag_at-fk.ensures c.higher-high.ensures
           (c.loop-i.invariant.rest c.loop-i.i (omega arith)),
     ))
