@@ -1,42 +1,58 @@
 -- An answer from rows and flags is that of the table that was loaded, and its records are written one by one
 -- from flags and bounds.
 -- Assumes nothing.
-use Rattle.std.proofs.Common.{ℕ, ◌+◌, ◌*◌, ◌≤◌, ◌<◌, arith, ◌≡◌, sym, ap, ap₂, subst, ◌∙◌, true, List}
-use Rattle.std.proofs.Common.{Result, Ok, Err}
+use Rattle.std.proofs.Common.{ℕ, ◌+◌, ◌*◌, ◌≤◌, ◌<◌, arith, ◌≡◌, refl, sym, ap₂, subst, ◌∙◌, true, List}
+use Rattle.std.proofs.Common.{Result, Ok, Err, Bor}
 use Rattle.base.specs.Rows.{at}
 use Rattle.base.proofs.RowLaws.{row_at, row_length}
 use Rattle.buffer.specs.Put.{Put}
 use Rattle.table.specs.declared.Table.{Table}
 use Rattle.table.specs.declared.Refusal.{Refusal}
+use Rattle.table.specs.Checks.{Checked}
 use Rattle.flags.specs.declared.Flags.{Flags}
 use Rattle.flags.specs.Flags.{flag_in, changed}
+use Rattle.rows.specs.declared.Rows.{Rows}
 use Rattle.planner.specs.declared.Done.{Done}
 use Rattle.planner.specs.declared.Job.{Job}
 use Rattle.planner.specs.declared.Record.{Record}
 use Rattle.planner.specs.declared.Said.{Said}
 use Rattle.planner.specs.Answers.{given, entry, no_record, record_at, records_of, changes}
 use Rattle.planner.specs.Done.{finish, refuse, room_done}
-use Rattle.planner.specs.Rows.{said_done}
-use Rattle.loading.specs.Loaded.{said_of}
-use Rattle.asked.specs.Asked.{given_in, found_done}
+use Rattle.planner.specs.Rows.{OfTable, said_done}
+use Rattle.asked.specs.Asked.{given_in, Lent, seen, AnsweredOf, found_done, Answered}
 use Rattle.flat.specs.Flat.{record_numbers}
 use Rattle.flat.proofs.FlatLaws.{Putting, putting_step}
 
--- by what the checks, or the reading, say
-module _ {r : Result Flags Refusal} (t : Table) (job : Job) (room : ℕ) (s : Said) (bounds : List ℕ) where
-  pub fine_room : {sent : Flags} → r ≡ Ok sent → said_done sent s bounds ≡ room_done t job room
-      → said_done (given_in r) s bounds ≡ found_done job room (said_of r) t
-  fine_room fine e = rw fine e
+-- what is lent is answered: each table that has the rows and the flags, or the fault
+module _ {A : Type 0} (f : Checked → Table → A) (d : Flags → A) {l : Result (Bor Rows × Flags) Refusal} where
+  pub of_rows : {rows : Bor Rows} {given : Flags} → l ≡ Ok (rows, given)
+      → OfTable (f (Ok tt)) rows.now given (d given) → AnsweredOf f (seen l) (d (given_in (seen l)))
+  of_rows is a =
+      rw is (λ t legal loaded.
+      a t (legal refl) (loaded.rows refl) (let e = loaded.given refl in cc))
 
-  pub faulty_room : {why : Refusal} → r ≡ Err why → said_done (record { word = 0 }) s bounds ≡ refuse why 0
-      → said_done (given_in r) s bounds ≡ found_done job room (said_of r) t
-  faulty_room fault e = rw fault e
+  pub of_fault : {why : Refusal} → l ≡ Err why → ((t : Table) → d (record { word = 0 }) ≡ f (Err why) t)
+      → AnsweredOf f (seen l) (d (given_in (seen l)))
+  of_fault is a = rw is (λ h inverses rests costs reaches t legal loaded. a t)
 
-pub said_fine : {r : Result Flags Refusal} {sent : Flags} → r ≡ Ok sent → said_of r ≡ Ok tt
-said_fine e = ap said_of e
+-- what follows of an answer by any finding and table follows of an answer by what is lent
+pub answered_as : {A B : Type 0} (f : Checked → Table → A) (g : Checked → Table → B) (l : Lent) (a : A)
+    (b : B) → ((found : Checked) (t : Table) → a ≡ f found t → b ≡ g found t) → AnsweredOf f l a
+    → AnsweredOf g l b
+answered_as f g (Ok (x, given)) a b h answer = λ t legal loaded. h (Ok tt) t (answer t legal loaded)
+answered_as f g (Err why) a b h answer =
+    λ y inverses rests costs reaches t legal loaded.
+    h (Err why) t (answer y inverses rests costs reaches t legal loaded)
 
-pub sent_given : {r : Result Flags Refusal} {a b : Flags} → r ≡ Ok a → r ≡ Ok b → a ≡ b
-sent_given e f = cc
+module _ (job : Job) (room : ℕ) {l : Result (Bor Rows × Flags) Refusal} (s : Said) (bounds : List ℕ) where
+  pub said_rows : {rows : Bor Rows} {given : Flags} → l ≡ Ok (rows, given)
+      → OfTable (λ t. room_done t job room) rows.now given (said_done given s bounds)
+      → Answered job room (seen l) (said_done (given_in (seen l)) s bounds)
+  said_rows is a = of_rows (found_done job room) (λ given. said_done given s bounds) is a
+
+  pub said_fault : {why : Refusal} → l ≡ Err why → said_done (record { word = 0 }) s bounds ≡ refuse why 0
+      → Answered job room (seen l) (said_done (given_in (seen l)) s bounds)
+  said_fault is a = of_fault (found_done job room) (λ given. said_done given s bounds) is (λ t. a)
 
 -- n records of flags and bounds; what the answer says besides does not matter to them
 abbrev pub listed : ℕ → Flags → Flags → List ℕ → Done

@@ -5,7 +5,7 @@
 ghost use Rattle.std.specs.Prelude.{◌≡◌, length, replicate};
 ghost use Rattle.flat.specs.Flat.{flat_after, Fits};
 ghost use Rattle.planner.specs.Rows.{said_done};
-ghost use Rattle.asked.specs.Asked.{given_in, Answerable, Answered, PlanAsked, TasksAsked};
+ghost use Rattle.asked.specs.Asked.{lent, seen, given_in, Answerable, Answered, PlanAsked, TasksAsked};
 
 use flags::{Flags, NO_FLAGS};
 use planner::{Answer, Job, Record, Said};
@@ -38,20 +38,30 @@ pub fn put_said(out: &mut [u32], given: Flags, said: Said, bounds: &[u32; 32])
     }
 }
 
+// What was loaded, with its rows; of a refused loading the fault alone.
+pub fn lend(loaded: Result<Flags, Refusal>, rows: &Rows) -> Result<(&Rows, Flags), Refusal>
+    ensures { seen result ≡ lent loaded rows.now }
+{
+    match loaded {
+        Ok(given) => Ok((rows, given)),
+        Err(why) => Err(why),
+    }
+}
+
 // What is loaded is answered: its fault, 13 where there is too little room, or what the job says of it.
 pub fn answered(
     job: Job,
     room: usize,
-    loaded: Result<Flags, Refusal>,
-    rows: &Rows,
+    loaded: Result<(&Rows, Flags), Refusal>,
     bounds: &mut [u32; 32],
 ) -> Said
-    requires { (Answerable loaded rows.now) × (bounds.old ≡ replicate 32 0) }
-    ensures { Answered job room loaded rows.now (said_done (given_in loaded) result bounds.new) }
+    requires { (Answerable (seen loaded)) × (bounds.old ≡ replicate 32 0) }
+    ensures { Answered job room (seen loaded.entry)
+        (said_done (given_in (seen loaded.entry)) result bounds.new) }
 {
     match loaded {
         Err(why) => planner::unsaid(why, 0, NO_FLAGS),
-        Ok(given) => {
+        Ok((rows, given)) => {
             if room < rows.head.n {
                 let why = Refusal {
                     number: 13,
@@ -71,7 +81,8 @@ pub fn plan_asked(job: Job, text: &[u8], records: &mut [u32]) -> Asked
     let mut rows = NO_ROWS;
     let mut bounds = [0u32; 32];
     let loaded = row_reader::load_plan(text, &mut rows);
-    let said = answered(job, records.len() / 3, loaded, &rows, &mut bounds);
+    let lent = lend(loaded, &rows);
+    let said = answered(job, records.len() / 3, lent, &mut bounds);
     put_said(records, loaded.unwrap_or(NO_FLAGS), said, &bounds);
     Asked {
         answer: said.answer,
@@ -95,7 +106,8 @@ pub fn tasks_asked(
     let mut rows = NO_ROWS;
     let mut bounds = [0u32; 32];
     let loaded = row_list::load_list(cores, policy, levels, tasks, &mut rows);
-    let said = answered(job, records.len() / 3, loaded, &rows, &mut bounds);
+    let lent = lend(loaded, &rows);
+    let said = answered(job, records.len() / 3, lent, &mut bounds);
     put_said(records, loaded.unwrap_or(NO_FLAGS), said, &bounds);
     Asked {
         answer: said.answer,

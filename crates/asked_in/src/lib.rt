@@ -4,7 +4,7 @@
 
 ghost use Rattle.std.specs.Prelude.{◌≡◌, replicate};
 ghost use Rattle.edition_2.specs.Rows.{said_rounded};
-ghost use Rattle.asked.specs.Asked.{given_in, Answerable, AnsweredBy};
+ghost use Rattle.asked.specs.Asked.{seen, given_in, Answerable, AnsweredOf};
 ghost use Rattle.asked_in.specs.AskedIn.{found_second, found_in, PlanAskedIn, TasksAskedIn};
 
 use asked::Asked;
@@ -27,20 +27,19 @@ pub struct AskedIn {
 fn answered_second(
     job: Job,
     room: usize,
-    loaded: Result<Flags, Refusal>,
-    rows: &Rows,
+    loaded: Result<(&Rows, Flags), Refusal>,
     bounds: &mut [u32; 32],
 ) -> RoundsSaid
-    requires { (Answerable loaded rows.now) × (bounds.old ≡ replicate 32 0) }
-    ensures { AnsweredBy (found_second job room) loaded rows.now
-        (said_rounded (given_in loaded) result bounds.new) }
+    requires { (Answerable (seen loaded)) × (bounds.old ≡ replicate 32 0) }
+    ensures { AnsweredOf (found_second job room) (seen loaded.entry)
+        (said_rounded (given_in (seen loaded.entry)) result bounds.new) }
 {
     match loaded {
         Err(why) => RoundsSaid {
             said: planner::unsaid(why, 0, NO_FLAGS),
             rounds: 0,
         },
-        Ok(given) => {
+        Ok((rows, given)) => {
             if room < rows.head.n {
                 let why = Refusal {
                     number: 13,
@@ -61,20 +60,19 @@ fn answered_in(
     edition: Edition,
     job: Job,
     room: usize,
-    loaded: Result<Flags, Refusal>,
-    rows: &Rows,
+    loaded: Result<(&Rows, Flags), Refusal>,
     bounds: &mut [u32; 32],
 ) -> RoundsSaid
-    requires { (Answerable loaded rows.now) × (bounds.old ≡ replicate 32 0) }
-    ensures { AnsweredBy (found_in edition job room) loaded rows.now
-        (said_rounded (given_in loaded) result bounds.new) }
+    requires { (Answerable (seen loaded)) × (bounds.old ≡ replicate 32 0) }
+    ensures { AnsweredOf (found_in edition job room) (seen loaded.entry)
+        (said_rounded (given_in (seen loaded.entry)) result bounds.new) }
 {
     match edition {
         Edition::First => RoundsSaid {
-            said: asked::answered(job, room, loaded, rows, bounds),
+            said: asked::answered(job, room, loaded, bounds),
             rounds: 0,
         },
-        Edition::Second => answered_second(job, room, loaded, rows, bounds),
+        Edition::Second => answered_second(job, room, loaded, bounds),
     }
 }
 
@@ -86,8 +84,9 @@ pub fn plan_asked_in(edition: Edition, job: Job, text: &[u8], records: &mut [u32
     let mut rows = NO_ROWS;
     let mut bounds = [0u32; 32];
     let loaded = row_reader::load_plan(text, &mut rows);
+    let lent = asked::lend(loaded, &rows);
     let room = records.len() / 3;
-    let RoundsSaid { said, rounds } = answered_in(edition, job, room, loaded, &rows, &mut bounds);
+    let RoundsSaid { said, rounds } = answered_in(edition, job, room, lent, &mut bounds);
     asked::put_said(records, loaded.unwrap_or(NO_FLAGS), said, &bounds);
     let asked = Asked {
         answer: said.answer,
@@ -113,8 +112,9 @@ pub fn tasks_asked_in(
     let mut rows = NO_ROWS;
     let mut bounds = [0u32; 32];
     let loaded = row_list::load_list(cores, policy, levels, tasks, &mut rows);
+    let lent = asked::lend(loaded, &rows);
     let room = records.len() / 3;
-    let RoundsSaid { said, rounds } = answered_in(edition, job, room, loaded, &rows, &mut bounds);
+    let RoundsSaid { said, rounds } = answered_in(edition, job, room, lent, &mut bounds);
     asked::put_said(records, loaded.unwrap_or(NO_FLAGS), said, &bounds);
     let asked = Asked {
         answer: said.answer,

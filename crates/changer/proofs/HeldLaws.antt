@@ -133,13 +133,13 @@ module _ {t : Table} {inverse rest cost reach : List ℕ} {h : Head} (legal : Le
 -- a text in rows: where it is fine, what is written of its rows is promised of the text
 module _ (text : List ℕ) {given : Flags} {x : Rows} (loaded : PlanLoaded text (Ok given) x) where
   read_fine : (read_of text).answer ≡ Ok tt
-  read_fine = sym loaded.answer
+  read_fine = sym loaded.parts.answer
 
   sent_flags : given ≡ held (at (flags_of (read_of text).table)) (read_of text).table.n
-  sent_flags = let e = loaded.given read_fine in cc
+  sent_flags = let e = loaded.parts.given read_fine in cc
 
   pub plan_given : given ≡ held (flag_in given) x.head.n
-  plan_given = given_held (read_legal text read_fine) sent_flags (loaded.rows read_fine).n
+  plan_given = given_held (read_legal text read_fine) sent_flags (loaded.parts.rows read_fine).n
 
   pub plan_changed : (s : Said) (bounds : List ℕ)
       → OfTable (λ t. legal_done t Force) x given (said_done given s bounds)
@@ -148,11 +148,11 @@ module _ (text : List ℕ) {given : Flags} {x : Rows} (loaded : PlanLoaded text 
       → Changes s.answer t old at r new → ChangedAs text old at r new
   plan_changed s bounds said is c =
       let legal = read_legal text read_fine in
-      let rows = loaded.rows read_fine in
+      let rows = loaded.parts.rows read_fine in
       text_forced text refl read_fine
       (said_forced legal rows given s bounds
       (said (read_of text).table legal rows sent_flags) (changes_of is c))
 
 pub plan_refused : (text : List ℕ) {why : Refusal} {x : Rows} {old : List ℕ} {at : ℕ}
     → PlanLoaded text (Err why) x → ChangedAs text old at (Err (stop why 0)) old
-plan_refused text loaded = text_faulty text refl (sym loaded.answer)
+plan_refused text loaded = text_faulty text refl (sym loaded.parts.answer)

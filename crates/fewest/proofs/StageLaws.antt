@@ -42,23 +42,23 @@ module _ (t : Table) (room : ℕ) where
 module _ (text : List ℕ) (room : ℕ) where
   module _ {given : Flags} {x : Rows} (loaded : PlanLoaded text (Ok given) x) where
     fine : (read_of text).answer ≡ Ok tt
-    fine = sym loaded.answer
+    fine = sym loaded.parts.answer
 
     sent_flags : given ≡ held (at (flags_of (read_of text).table)) (read_of text).table.n
-    sent_flags = let e = loaded.given fine in cc
+    sent_flags = let e = loaded.parts.given fine in cc
 
     pub text_given : given ≡ held (flag_in given) x.head.n
-    text_given = given_held (read_legal text fine) sent_flags (loaded.rows fine).n
+    text_given = given_held (read_legal text fine) sent_flags (loaded.parts.rows fine).n
 
     pub text_found : {f : Fewest} → OfTable (λ t. room_fewest t room) x given f → f ≡ plan_fewest text room
     unfolding plan_fewest
     text_found found =
-        found (read_of text).table (read_legal text fine) (loaded.rows fine) sent_flags ∙ rw (fine) refl
+        found (read_of text).table (read_legal text fine) (loaded.parts.rows fine) sent_flags ∙ rw (fine) refl
 
   pub text_faulty : {why : Refusal} {x : Rows} → PlanLoaded text (Err why) x
       → refuse_fewest why ≡ plan_fewest text room
   unfolding plan_fewest
-  text_faulty loaded = rw (← loaded.answer)
+  text_faulty loaded = rw (← loaded.parts.answer)
 
 -- a list that passes the checks is answered as its table is
 pub list_found : (t : Table) (room : ℕ) → check_of t ≡ Ok tt

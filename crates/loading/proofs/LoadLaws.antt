@@ -39,15 +39,19 @@ module _ {t : Table} {given : Flags} {x : Rows} {i : ℕ} (a : Loading t given x
 
   pub loading_end : {found : Checked} → i ≡ t.n → Ok tt ≡ found → LoadedAs found t (Ok given) x
   loading_end all fine = record {
-    answer = fine;
-    rows = λ _. filling_end a.rows all;
-    given = λ _. ap Ok (held_end (at (flags_of t)) a.flags all);
+    parts = record {
+      answer = fine;
+      rows = λ _. filling_end a.rows all;
+      given = λ _. ap Ok (held_end (at (flags_of t)) a.flags all);
+    };
   }
 
 pub loading_refused : {found : Checked} (t : Table) (x : Rows) {number place : ℕ}
     → faulty number place ≡ found → LoadedAs found t (Err (refusal number place)) x
 loading_refused t x is_found = record {
-  answer = is_found;
-  rows = λ fine. absurd (let z : ◌≡◌ {A = ℕ} 0 1 = cc in omega arith);
-  given = λ fine. absurd (let z : ◌≡◌ {A = ℕ} 0 1 = cc in omega arith);
+  parts = record {
+    answer = is_found;
+    rows = λ fine. absurd (let z : ◌≡◌ {A = ℕ} 0 1 = cc in omega arith);
+    given = λ fine. absurd (let z : ◌≡◌ {A = ℕ} 0 1 = cc in omega arith);
+  };
 }
