@@ -30,6 +30,7 @@ use Rattle.loading.specs.Loaded.{said_of, LoadedIn}
 use Rattle.row_reader.specs.RowsRead.{PlanLoaded}
 use Rattle.flat_tasks.specs.FlatTasks.{table_in}
 use Rattle.row_list.specs.ListLoaded.{ListLoaded}
+use Rattle.asked.proofs.SaidLaws.{said_fine}
 use Rattle.asked.specs.Asked.{Lent, lent, given_in, Answerable, AnsweredBy, AnsweredOf, found_done, Answered}
 use Rattle.asked.specs.Asked.{AskedAs}
 
@@ -40,7 +41,7 @@ module _ {found : Checked} {t : Table} {r : Result Flags Refusal} {h : Head} {is
 
   loaded_given : (given : Flags) → r ≡ Ok given → given ≡ held (flag_in given) h.n
   loaded_given given e =
-      let f = found_fine (ap said_of e) in
+      let f = found_fine (said_fine e) in
       let sent : given ≡ held (at (flags_of t)) t.n = let i = loaded.given f in cc in
       given_held (legal f) sent (loaded.rows f).n
 

@@ -1,8 +1,9 @@
 -- An answer from rows and flags is that of the table that was loaded, and its records are written one by one
 -- from flags and bounds.
 -- Assumes nothing.
-use Rattle.std.proofs.Common.{ℕ, ◌+◌, ◌*◌, ◌≤◌, ◌<◌, arith, ◌≡◌, refl, sym, ap₂, subst, ◌∙◌, true, List}
-use Rattle.std.proofs.Common.{Result, Ok, Err, Bor}
+use Rattle.std.proofs.Common.{ℕ, ◌+◌, ◌*◌, ◌≤◌, ◌<◌, arith, ◌≡◌, refl, sym, ap, ap₂, subst, ◌∙◌, true}
+use Rattle.std.proofs.Common.{List, Result, Ok, Err, Bor}
+use Rattle.std.specs.Result.{result_unwrap_or}
 use Rattle.base.specs.Rows.{at}
 use Rattle.base.proofs.RowLaws.{row_at, row_length}
 use Rattle.buffer.specs.Put.{Put}
@@ -19,9 +20,17 @@ use Rattle.planner.specs.declared.Said.{Said}
 use Rattle.planner.specs.Answers.{given, entry, no_record, record_at, records_of, changes}
 use Rattle.planner.specs.Done.{finish, refuse, room_done}
 use Rattle.planner.specs.Rows.{OfTable, said_done}
+use Rattle.loading.specs.Loaded.{said_of}
 use Rattle.asked.specs.Asked.{given_in, Lent, seen, AnsweredOf, found_done, Answered}
 use Rattle.flat.specs.Flat.{record_numbers}
 use Rattle.flat.proofs.FlatLaws.{Putting, putting_step}
+
+-- flags that were loaded: there was no fault, and they are the only ones
+pub said_fine : {r : Result Flags Refusal} {sent : Flags} → r ≡ Ok sent → said_of r ≡ Ok tt
+said_fine e = ap said_of e
+
+pub sent_given : {r : Result Flags Refusal} {a b : Flags} → r ≡ Ok a → r ≡ Ok b → a ≡ b
+sent_given e f = cc
 
 -- what is lent is answered: each table that has the rows and the flags, or the fault
 module _ {A : Type 0} (f : Checked → Table → A) (d : Flags → A) {l : Result (Bor Rows × Flags) Refusal} where
@@ -29,7 +38,7 @@ module _ {A : Type 0} (f : Checked → Table → A) (d : Flags → A) {l : Resul
       → OfTable (f (Ok tt)) rows.now given (d given) → AnsweredOf f (seen l) (d (given_in (seen l)))
   of_rows is a =
       rw is (λ t legal loaded.
-      a t (legal refl) (loaded.rows refl) (let e = loaded.given refl in cc))
+      a t (legal refl) (loaded.rows refl) (sent_given refl (loaded.given refl)))
 
   pub of_fault : {why : Refusal} → l ≡ Err why → ((t : Table) → d (record { word = 0 }) ≡ f (Err why) t)
       → AnsweredOf f (seen l) (d (given_in (seen l)))
@@ -53,6 +62,16 @@ module _ (job : Job) (room : ℕ) {l : Result (Bor Rows × Flags) Refusal} (s : 
   pub said_fault : {why : Refusal} → l ≡ Err why → said_done (record { word = 0 }) s bounds ≡ refuse why 0
       → Answered job room (seen l) (said_done (given_in (seen l)) s bounds)
   said_fault is a = of_fault (found_done job room) (λ given. said_done given s bounds) is (λ t. a)
+
+-- the same of one table, by what the checks, or the reading, say
+module _ {r : Result Flags Refusal} (t : Table) (job : Job) (room : ℕ) (s : Said) (bounds : List ℕ) where
+  pub fine_room : {sent : Flags} → r ≡ Ok sent → said_done sent s bounds ≡ room_done t job room
+      → said_done (result_unwrap_or r (record { word = 0 })) s bounds ≡ found_done job room (said_of r) t
+  fine_room fine e = rw fine e
+
+  pub faulty_room : {why : Refusal} → r ≡ Err why → said_done (record { word = 0 }) s bounds ≡ refuse why 0
+      → said_done (result_unwrap_or r (record { word = 0 })) s bounds ≡ found_done job room (said_of r) t
+  faulty_room fault e = rw fault e
 
 -- n records of flags and bounds; what the answer says besides does not matter to them
 abbrev pub listed : ℕ → Flags → Flags → List ℕ → Done

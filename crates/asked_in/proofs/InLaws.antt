@@ -1,26 +1,30 @@
 -- What is loaded is answered under either edition as the answers by value are.
 -- Assumes nothing.
-use Rattle.std.proofs.Common.{ℕ, ◌≤◌, ◌≡◌, ap, Bool, List, Result, Ok, Err, Bor}
+use Rattle.std.proofs.Common.{ℕ, ◌≤◌, ◌<◌, ◌≡◌, ap, ◌∙◌, Bool, List, Result, Ok, Err, Bor}
+use Rattle.std.specs.Result.{result_unwrap_or}
 use Rattle.table.specs.declared.Table.{Table}
 use Rattle.table.specs.declared.Refusal.{Refusal}
-use Rattle.table.specs.Checks.{Checked}
+use Rattle.table.specs.Checks.{Checked, refusal}
 use Rattle.flags.specs.declared.Flags.{Flags}
 use Rattle.flags.specs.Words.{word_of}
 use Rattle.flags.specs.Flags.{flag_in}
 use Rattle.planner.specs.declared.Done.{Done}
 use Rattle.planner.specs.declared.Job.{Job}
+use Rattle.planner.specs.declared.Said.{Said}
 use Rattle.planner.specs.Done.{refuse, plan_done, list_done}
 use Rattle.planner.specs.Rows.{OfTable, said_done}
 use Rattle.planner.proofs.CountLaws.{Small}
 use Rattle.edition_2.specs.declared.Rounded.{Rounded}
 use Rattle.edition_2.specs.declared.RoundsSaid.{RoundsSaid}
-use Rattle.edition_2.specs.Second.{unrounded}
+use Rattle.edition_2.specs.Second.{unrounded, legal_second}
 use Rattle.edition_2.specs.Rows.{said_rounded}
 use Rattle.editions.specs.declared.Edition.{Edition}
 use Rattle.editions.specs.declared.Edition.TheVariants.{First, Second}
 use Rattle.editions.specs.Editions.{room_second, plan_second, list_second, plan_in, list_in}
+use Rattle.editions.proofs.StageLaws.{second_short, second_enough}
 use Rattle.flat.specs.Flat.{flat_after}
 use Rattle.rows.specs.declared.Rows.{Rows}
+use Rattle.loading.specs.Loaded.{said_of}
 use Rattle.row_reader.specs.RowsRead.{PlanLoaded}
 use Rattle.flat_tasks.specs.FlatTasks.{table_in}
 use Rattle.row_list.specs.ListLoaded.{ListLoaded}
@@ -43,6 +47,29 @@ module _ (job : Job) (room : ℕ) {l : Result (Bor Rows × Flags) Refusal} (s : 
       → AnsweredOf (found_second job room) (seen l) (said_rounded (given_in (seen l)) s bounds)
   unfolding found_second
   second_fault is a = of_fault (found_second job room) (λ given. said_rounded given s bounds) is (λ t. a)
+
+-- the same of one table, by what the checks, or the reading, say
+module _ {r : Result Flags Refusal} (t : Table) (job : Job) (room : ℕ) (s : Said) (bounds : List ℕ) where
+  pub second_faulty : {why : Refusal} → r ≡ Err why → said_done (record { word = 0 }) s bounds ≡ refuse why 0
+      → unrounded (said_done (result_unwrap_or r (record { word = 0 })) s bounds)
+      ≡ found_second job room (said_of r) t
+  unfolding found_second
+  second_faulty fault e = rw fault (ap unrounded e)
+
+  pub second_full : {sent : Flags} → r ≡ Ok sent → said_done sent s bounds ≡ refuse (refusal 13 0) 0
+      → room < t.n
+      → unrounded (said_done (result_unwrap_or r (record { word = 0 })) s bounds)
+      ≡ found_second job room (said_of r) t
+  unfolding found_second room_second
+  second_full fine e short = rw fine (ap unrounded e ∙ second_short t job room short)
+
+module _ {r : Result Flags Refusal} (t : Table) (job : Job) (room : ℕ) (s : RoundsSaid)
+    (bounds : List ℕ) where
+  pub second_fine : {sent : Flags} → r ≡ Ok sent → said_rounded sent s bounds ≡ legal_second t job
+      → t.n ≤ room
+      → said_rounded (result_unwrap_or r (record { word = 0 })) s bounds ≡ found_second job room (said_of r) t
+  unfolding found_second room_second
+  second_fine fine e enough = rw fine (e ∙ second_enough t job room enough)
 
 -- by the edition
 module _ {e : Edition} (job : Job) (room : ℕ) (found : Checked) (t : Table) {r : Rounded} where
